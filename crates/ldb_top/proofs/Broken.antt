@@ -30,12 +30,12 @@ use Rattle.session.specs.Answered.{Answers as Replied}
 use Rattle.session.specs.Meant.{Answered, PutInPart, AnswersAs, MeantAnswers, IsSaidIfAny}
 use Rattle.ldb_top.specs.declared.serving.Next.{Next}
 use Rattle.ldb_top.specs.Ahead.{Lines, line_and, lines_if}
-use Rattle.ldb_top.specs.Conversed.{Converses, Told, commands_in, refused_in, wanting_line}
+use Rattle.ldb_top.specs.Conversed.{Converses, Told, commands_in, refused_in, wanting_line, OnlyLooks, Assigns}
 use Rattle.ldb_top.specs.Conversing.{Grows, IsOver, Here, here, IsSo, IsPart, GoesSo}
 use Rattle.ldb_top.specs.Fronts.{BreaksOff}
 use Rattle.ldb_top.specs.Late.{asks_quit}
 use Rattle.ldb_top.specs.Said.{IsFront}
-use Rattle.ldb_top.proofs.Conversations.{said_or_not, read_line, front_so, blank_none, none_rose, refused_answers, line_alone, AnswersLine, RefusesLine}
+use Rattle.ldb_top.proofs.Conversations.{IsUntold, said_or_not, read_line, front_so, blank_none, none_rose, refused_answers, line_alone, AnswersLine, RefusesLine, LooksSilent}
 use Rattle.ldb_top.proofs.Lates.{same_quit, quits_not}
 
 -- ---- fronts
@@ -71,6 +71,11 @@ front_none xs ys e f = none_left xs (subst (IsFront xs) e f)
 ordered : (st next : SessionState) (told put output : List ℕ) → next.written ≡ st.written ++ output → (told ≡ []) ⊎ (put ≡ output) → (told ≡ []) ⊎ (st.written ++ put ≡ next.written)
 ordered st next told put output written (inl e) = inl e
 ordered st next told put output written (inr e) = inr (ap (λ p. st.written ++ p) e ∙ sym written)
+
+write_or_not : (f : Fault) → (f ≡ Write) ⊎ (f ≢ Write)
+write_or_not Write = inl refl
+write_or_not Read = inr (λ e. cc)
+write_or_not NoMemory = inr (λ e. cc)
 
 -- ---- conversations
 
@@ -140,9 +145,22 @@ module _ (fault : Fault) (unread : fault ≢ Read) (raw : Bool) (st : SessionSta
       })))
 
   -- a line that is open
-  open_part : (told put : List ℕ) → is_empty line ≡ false → ¬ IsSaidIfAny (read_of raw line) → refused_in st.state (read_of raw line) ≡ None → taken' ≡ known_and taken told → out' ≡ Some (st.written ++ put) → Part
-  open_part told put full unsaid e took added =
-      line_part fault raw st line lines taken out taken' out' told (st.written ++ put) full took added (λ cs. inr (inr (inr (inl ((unsaid, e), record { rest = put; is = refl })))))
+  open_part : (told put : List ℕ) → is_empty line ≡ false → Assigns (read_of raw line) → refused_in st.state (read_of raw line) ≡ None → taken' ≡ known_and taken told → out' ≡ Some (st.written ++ put) → Part
+  open_part told put full assigns e took added =
+      line_part fault raw st line lines taken out taken' out' told (st.written ++ put) full took added (λ cs. inr (inr (inr (inl ((assigns, e), record { rest = put; is = refl })))))
+
+  -- what a command says that only looks, in part
+  looks_part : (told put : List ℕ) → (fault ≡ Write) ⊎ (fault ≢ Write) → is_empty line ≡ false → OnlyLooks (read_of raw line) → refused_in st.state (read_of raw line) ≡ None → put ≡ [] → (fault ≢ Write → told ≡ []) → taken' ≡ known_and taken told → out' ≡ Some (st.written ++ put) → Part
+  looks_part told put (inl unwritten) full looks e nothing silent took added =
+      line_part fault raw st line lines taken out taken' out' told st.written full took (added ∙ ap (λ p. Some (st.written ++ p)) nothing ∙ ap Some (append-nil st.written))
+      (λ cs. inr (inr (inl (record { unwritten = unwritten; told_front = inr (looks, e); none_put = refl }))))
+  looks_part told put (inr written) full looks e nothing silent took added = nothing_part told put (silent written) nothing took added
+
+  -- a command of which it isn't told what it says
+  open_or_looks : (told put : List ℕ) → is_empty line ≡ false → IsUntold (read_of raw line) → refused_in st.state (read_of raw line) ≡ None → LooksSilent s line bytes → IsFront put bytes → (fault ≢ Write → told ≡ []) → taken' ≡ known_and taken told → out' ≡ Some (st.written ++ put) → Part
+  open_or_looks told put full (inr assigns) e nothing put_front silent took added = open_part told put full assigns e took added
+  open_or_looks told put full (inl looks) e nothing put_front silent took added =
+      looks_part told put (write_or_not fault) full looks e (front_none put bytes (nothing (subst (λ x. OnlyLooks (read_of x line)) (sym over.raw_is) looks)) put_front) silent took added
 
   -- the reply to a line that the state refuses, by what the line is
   refused_line : (c : Option Command) (u : Refusal) → read_of s.raw line ≡ c → refused_in st.state c ≡ Some u → RefusesLine s s' line bytes r → Replied (refusal_reply u) r × (bytes ≡ [])
@@ -152,18 +170,18 @@ module _ (fault : Fault) (unread : fault ≢ Read) (raw : Bool) (st : SessionSta
   refused_raw : (u : Refusal) → refused_in st.state (read_of raw line) ≡ Some u → RefusesLine s s' line bytes r → Replied (refusal_reply u) r × (bytes ≡ [])
   refused_raw u e f = refused_line (read_of s.raw line) u refl (subst (λ x. refused_in st.state (read_of x line) ≡ Some u) (sym over.raw_is) e) f
 
-  -- a command of which nothing else is said, by whether the state refuses it
-  unsaid_part : (text told put : List ℕ) (why : Option Refusal) → refused_in st.state (read_of raw line) ≡ why → ¬ IsSaidIfAny (read_of raw line) → is_empty line ≡ false → r ≡ Ok (answer.Lines text) → RefusesLine s s' line bytes r
+  -- the same, by whether the state refuses it
+  untold_part : (text told put : List ℕ) (why : Option Refusal) → refused_in st.state (read_of raw line) ≡ why → IsUntold (read_of raw line) → is_empty line ≡ false → r ≡ Ok (answer.Lines text) → RefusesLine s s' line bytes r → LooksSilent s line bytes
       → IsFront told text → IsFront put bytes → (fault ≢ Write → told ≡ []) → taken' ≡ known_and taken told → out' ≡ Some (st.written ++ put) → Part
-  unsaid_part text told put None e unsaid full is refuses front put_front silent took added = open_part told put full unsaid e took added
-  unsaid_part text told put (Some u) e unsaid full is refuses front put_front silent took added =
+  untold_part text told put None e untold full is refuses nothing front put_front silent took added = open_or_looks told put full untold e nothing put_front silent took added
+  untold_part text told put (Some u) e untold full is refuses nothing front put_front silent took added =
       let said = refused_raw u e refuses in
       let reply : text ≡ refusal_reply u = subst (Replied (refusal_reply u)) is said.0 in
       answered_part told put text [] (refusal_text u ∷ []) st full (refused_answers st (read_of raw line) u e) (reply ∙ sym (append-nil (refusal_reply u))) (sym (append-nil st.written)) front (subst (IsFront put) said.1 put_front) (inr (front_none put bytes said.1 put_front)) silent took added
 
-  said_part : (text told put : List ℕ) → (c : Option Command) → c ≡ read_of s.raw line → IsSaidIfAny c ⊎ (¬ IsSaidIfAny c) → is_empty line ≡ false → r ≡ Ok (answer.Lines text) → kept ≡ Some [] → kept' ≡ Some bytes → AnswersLine s s' line st kept kept' r
-      → RefusesLine s s' line bytes r → IsFront told text → IsFront put bytes → (told ≡ []) ⊎ (put ≡ bytes) → (fault ≢ Write → told ≡ []) → taken' ≡ known_and taken told → out' ≡ Some (st.written ++ put) → Part
-  said_part text told put c e (inl said) full is none holds meant refuses front put_front order silent took added =
+  said_part : (text told put : List ℕ) → (c : Option Command) → c ≡ read_of s.raw line → IsSaidIfAny c ⊎ IsUntold c → is_empty line ≡ false → r ≡ Ok (answer.Lines text) → kept ≡ Some [] → kept' ≡ Some bytes → AnswersLine s s' line st kept kept' r
+      → RefusesLine s s' line bytes r → LooksSilent s line bytes → IsFront told text → IsFront put bytes → (told ≡ []) ⊎ (put ≡ bytes) → (fault ≢ Write → told ≡ []) → taken' ≡ known_and taken told → out' ≡ Some (st.written ++ put) → Part
+  said_part text told put c e (inl said) full is none holds meant refuses nothing front put_front order silent took added =
       elim (subst (λ x. AnswersAs machine_behaviour near_conduct (Some s'.talk.memory.below.below.below.link) s'.first s'.second s'.mode s'.limit st kept kept' (MeantAnswers machine_behaviour st (read_of s.raw line)) 0 0 s.broken x) is (meant over.hosts over.represents full (subst (λ x. IsSaidIfAny x) e said))) [
         | inl off ↦ absurd (none_rose off.0)
         | inr a ↦
@@ -171,21 +189,21 @@ module _ (fault : Fault) (unread : fault ≢ Read) (raw : Bool) (st : SessionSta
             let all : b.output ≡ bytes = cc (b.put, holds) in
             answered_part told put text b.output b.reply b.after full (subst (λ x. Answers machine_behaviour st (read_of x line) b.reply b.after) over.raw_is b.says) b.text_is b.written front (subst (IsFront put) (sym all) put_front) (subst (λ (z : List ℕ). (told ≡ []) ⊎ (put ≡ z)) (sym all) order) silent took added
       ]
-  said_part text told put c e (inr unsaid) full is none holds meant refuses front put_front order silent took added =
-      unsaid_part text told put (refused_in st.state (read_of raw line)) refl (subst (λ x. ¬ IsSaidIfAny x) (e ∙ ap (λ x. read_of x line) over.raw_is) unsaid) full is refuses front put_front silent took added
+  said_part text told put c e (inr untold) full is none holds meant refuses nothing front put_front order silent took added =
+      untold_part text told put (refused_in st.state (read_of raw line)) refl (subst (λ x. IsUntold x) (e ∙ ap (λ x. read_of x line) over.raw_is) untold) full is refuses nothing front put_front silent took added
 
   lines_either : (text told put : List ℕ) (b : Bool) → is_empty line ≡ b → r ≡ Ok (answer.Lines text) → (is_empty line ≡ true → r ≡ Ok (answer.Lines [])) → (read_of s.raw line ≡ None → bytes ≡ []) → kept ≡ Some [] → kept' ≡ Some bytes
-      → AnswersLine s s' line st kept kept' r → RefusesLine s s' line bytes r → IsFront told text → IsFront put bytes → (told ≡ []) ⊎ (put ≡ bytes) → (fault ≢ Write → told ≡ []) → taken' ≡ known_and taken told → out' ≡ Some (st.written ++ put) → Part
-  lines_either text told put true e is blank same none holds meant refuses front put_front order silent took added =
+      → AnswersLine s s' line st kept kept' r → RefusesLine s s' line bytes r → LooksSilent s line bytes → IsFront told text → IsFront put bytes → (told ≡ []) ⊎ (put ≡ bytes) → (fault ≢ Write → told ≡ []) → taken' ≡ known_and taken told → out' ≡ Some (st.written ++ put) → Part
+  lines_either text told put true e is blank same none holds meant refuses nothing front put_front order silent took added =
       let empty : text ≡ [] = cc (is, blank e) in
       nothing_part told put (front_none told text empty front) (front_none put bytes (same (blank_none s.raw line e)) put_front) took added
-  lines_either text told put false e is blank same none holds meant refuses front put_front order silent took added =
-      said_part text told put (read_of s.raw line) refl (said_or_not (read_of s.raw line)) e is none holds meant refuses front put_front order silent took added
+  lines_either text told put false e is blank same none holds meant refuses nothing front put_front order silent took added =
+      said_part text told put (read_of s.raw line) refl (said_or_not (read_of s.raw line)) e is none holds meant refuses nothing front put_front order silent took added
 
   -- a reply of lines, told in part
-  pub lines_part : (text told put : List ℕ) → r ≡ Ok (answer.Lines text) → (is_empty line ≡ true → r ≡ Ok (answer.Lines [])) → (read_of s.raw line ≡ None → bytes ≡ []) → kept ≡ Some [] → kept' ≡ Some bytes → AnswersLine s s' line st kept kept' r → RefusesLine s s' line bytes r
+  pub lines_part : (text told put : List ℕ) → r ≡ Ok (answer.Lines text) → (is_empty line ≡ true → r ≡ Ok (answer.Lines [])) → (read_of s.raw line ≡ None → bytes ≡ []) → kept ≡ Some [] → kept' ≡ Some bytes → AnswersLine s s' line st kept kept' r → RefusesLine s s' line bytes r → LooksSilent s line bytes
       → IsFront told text → IsFront put bytes → (told ≡ []) ⊎ (put ≡ bytes) → (fault ≢ Write → told ≡ []) → taken' ≡ known_and taken told → out' ≡ Some (st.written ++ put) → Part
-  lines_part text told put is blank same none holds meant refuses front put_front order silent took added = lines_either text told put (is_empty line) refl is blank same none holds meant refuses front put_front order silent took added
+  lines_part text told put is blank same none holds meant refuses nothing front put_front order silent took added = lines_either text told put (is_empty line) refl is blank same none holds meant refuses nothing front put_front order silent took added
 
   full_line : (b : Bool) → is_empty line ≡ b → (is_empty line ≡ true → r ≡ Ok (answer.Lines [])) → (r ≡ Ok (answer.Lines []) → ⊥) → is_empty line ≡ false
   full_line true e blank unblank = absurd (unblank (blank e))
@@ -198,41 +216,41 @@ module _ (fault : Fault) (unread : fault ≢ Read) (raw : Bool) (st : SessionSta
       let full : is_empty line ≡ false = full_line (is_empty line) refl blank (λ e. cc) in
       let unquit : asks_quit (read_of raw line) ≡ false = same_quit raw line ∙ quits_not s.raw line (λ q. (let e : r ≡ Err end.Quit = quit q in cc)) in
       line_part fault raw st line lines taken out taken' out' told st.written full took (added ∙ ap (λ p. Some (st.written ++ p)) (front_none put bytes nothing put_front) ∙ ap Some (append-nil st.written))
-      (λ cs. inr (inr (inl (record { unwritten = unwritten; no_quit = unquit; told_front = front; none_put = refl }))))
+      (λ cs. inr (inr (inl (record { unwritten = unwritten; told_front = inl (unquit, front); none_put = refl }))))
 
-  -- the same where the output failed
-  failed_part : (put : List ℕ) (why : Option Refusal) → refused_in st.state (read_of raw line) ≡ why → ¬ IsSaidIfAny (read_of raw line) → is_empty line ≡ false → r ≡ Err end.OutFault → RefusesLine s s' line bytes r → taken' ≡ taken → out' ≡ Some (st.written ++ put) → Part
-  failed_part put None e unsaid full is refuses took added = open_part [] put full unsaid e (took ∙ sym (known_nothing taken)) added
-  failed_part put (Some u) e unsaid full is refuses took added = absurd (subst (Replied (refusal_reply u)) is (refused_raw u e refuses).0)
+  -- a command of which it isn't told what it says, where the output failed
+  failed_part : (put : List ℕ) (why : Option Refusal) → refused_in st.state (read_of raw line) ≡ why → IsUntold (read_of raw line) → is_empty line ≡ false → r ≡ Err end.OutFault → RefusesLine s s' line bytes r → LooksSilent s line bytes → IsFront put bytes → taken' ≡ taken → out' ≡ Some (st.written ++ put) → Part
+  failed_part put None e untold full is refuses nothing put_front took added = open_or_looks [] put full untold e nothing put_front (λ w. refl) (took ∙ sym (known_nothing taken)) added
+  failed_part put (Some u) e untold full is refuses nothing put_front took added = absurd (subst (Replied (refusal_reply u)) is (refused_raw u e refuses).0)
 
   -- where the output failed: its front was put, and perhaps a front of that added to the file
-  put_part : (put : List ℕ) (c : Option Command) → c ≡ read_of s.raw line → IsSaidIfAny c ⊎ (¬ IsSaidIfAny c) → is_empty line ≡ false → r ≡ Err end.OutFault → kept ≡ Some [] → kept' ≡ Some bytes → AnswersLine s s' line st kept kept' r
-      → RefusesLine s s' line bytes r → IsFront put bytes → taken' ≡ taken → out' ≡ Some (st.written ++ put) → Part
-  put_part put c e (inl said) full is none holds meant refuses put_front took added =
+  put_part : (put : List ℕ) (c : Option Command) → c ≡ read_of s.raw line → IsSaidIfAny c ⊎ IsUntold c → is_empty line ≡ false → r ≡ Err end.OutFault → kept ≡ Some [] → kept' ≡ Some bytes → AnswersLine s s' line st kept kept' r
+      → RefusesLine s s' line bytes r → LooksSilent s line bytes → IsFront put bytes → taken' ≡ taken → out' ≡ Some (st.written ++ put) → Part
+  put_part put c e (inl said) full is none holds meant refuses nothing put_front took added =
       let a : PutInPart st kept kept' (MeantAnswers machine_behaviour st (read_of s.raw line)) =
       subst (λ x. AnswersAs machine_behaviour near_conduct (Some s'.talk.memory.below.below.below.link) s'.first s'.second s'.mode s'.limit st kept kept' (MeantAnswers machine_behaviour st (read_of s.raw line)) 0 0 s.broken x) is (meant over.hosts over.represents full (subst (λ x. IsSaidIfAny x) e said)) in
       let f : sink.TakesFront (Some []) kept' a.output = subst (λ k. sink.TakesFront k kept' a.output) none a.front in
       let all : f.front ≡ bytes = cc (f.taken, holds) in
       answered_part [] put (joined a.reply) a.output a.reply a.after full (subst (λ x. Answers machine_behaviour st (read_of x line) a.reply a.after) over.raw_is a.says) refl a.written (nothing_front (joined a.reply))
       (front_on put bytes a.output put_front (record { rest = f.back; is = sym (ap (λ z. z ++ f.back) (sym all) ∙ f.whole) })) (inl refl) (λ w. refl) (took ∙ sym (known_nothing taken)) added
-  put_part put c e (inr unsaid) full is none holds meant refuses put_front took added =
-      failed_part put (refused_in st.state (read_of raw line)) refl (subst (λ x. ¬ IsSaidIfAny x) (e ∙ ap (λ x. read_of x line) over.raw_is) unsaid) full is refuses took added
+  put_part put c e (inr untold) full is none holds meant refuses nothing put_front took added =
+      failed_part put (refused_in st.state (read_of raw line)) refl (subst (λ x. IsUntold x) (e ∙ ap (λ x. read_of x line) over.raw_is) untold) full is refuses nothing put_front took added
 
-  pub fault_part : (put : List ℕ) → r ≡ Err end.OutFault → (is_empty line ≡ true → r ≡ Ok (answer.Lines [])) → kept ≡ Some [] → kept' ≡ Some bytes → AnswersLine s s' line st kept kept' r → RefusesLine s s' line bytes r → IsFront put bytes → taken' ≡ taken
+  pub fault_part : (put : List ℕ) → r ≡ Err end.OutFault → (is_empty line ≡ true → r ≡ Ok (answer.Lines [])) → kept ≡ Some [] → kept' ≡ Some bytes → AnswersLine s s' line st kept kept' r → RefusesLine s s' line bytes r → LooksSilent s line bytes → IsFront put bytes → taken' ≡ taken
       → out' ≡ Some (st.written ++ put) → Part
-  fault_part put is blank none holds meant refuses put_front took added =
-      put_part put (read_of s.raw line) refl (said_or_not (read_of s.raw line)) (full_line (is_empty line) refl blank (λ e. cc)) is none holds meant refuses put_front took added
+  fault_part put is blank none holds meant refuses nothing put_front took added =
+      put_part put (read_of s.raw line) refl (said_or_not (read_of s.raw line)) (full_line (is_empty line) refl blank (λ e. cc)) is none holds meant refuses nothing put_front took added
 
   -- what was put in part, before any reply
   pub cut_part : (put : List ℕ) (v : Result Answer End) → fault ≡ Write → r ≡ v → (is_empty line ≡ true → r ≡ Ok (answer.Lines [])) → (read_of s.raw line ≡ None → bytes ≡ []) → (read_of s.raw line ≡ Some Quit → r ≡ Err end.Quit) → (r ≡ Ok answer.NoMemory → bytes ≡ [])
-      → (r ≡ Err end.Quit → bytes ≡ []) → kept ≡ Some [] → kept' ≡ Some bytes → AnswersLine s s' line st kept kept' r → RefusesLine s s' line bytes r → IsFront put bytes → taken' ≡ taken → out' ≡ Some (st.written ++ put) → Part
-  cut_part put (Ok (answer.Lines text)) unwritten is blank same quit wanting ended none holds meant refuses put_front took added =
-      lines_part text [] put is blank same none holds meant refuses (nothing_front text) put_front (inl refl) (λ w. refl) (took ∙ sym (known_nothing taken)) added
-  cut_part put (Ok answer.NoMemory) unwritten is blank same quit wanting ended none holds meant refuses put_front took added =
+      → (r ≡ Err end.Quit → bytes ≡ []) → kept ≡ Some [] → kept' ≡ Some bytes → AnswersLine s s' line st kept kept' r → RefusesLine s s' line bytes r → LooksSilent s line bytes → IsFront put bytes → taken' ≡ taken → out' ≡ Some (st.written ++ put) → Part
+  cut_part put (Ok (answer.Lines text)) unwritten is blank same quit wanting ended none holds meant refuses nothing put_front took added =
+      lines_part text [] put is blank same none holds meant refuses nothing (nothing_front text) put_front (inl refl) (λ w. refl) (took ∙ sym (known_nothing taken)) added
+  cut_part put (Ok answer.NoMemory) unwritten is blank same quit wanting ended none holds meant refuses nothing put_front took added =
       wanting_part [] put unwritten is blank quit (wanting is) (nothing_front wanting_line) put_front (took ∙ sym (known_nothing taken)) added
-  cut_part put (Err end.Quit) unwritten is blank same quit wanting ended none holds meant refuses put_front took added =
+  cut_part put (Err end.Quit) unwritten is blank same quit wanting ended none holds meant refuses nothing put_front took added =
       nothing_part [] put refl (front_none put bytes (ended is) put_front) (took ∙ sym (known_nothing taken)) added
-  cut_part put (Err end.OutFault) unwritten is blank same quit wanting ended none holds meant refuses put_front took added = fault_part put is blank none holds meant refuses put_front took added
+  cut_part put (Err end.OutFault) unwritten is blank same quit wanting ended none holds meant refuses nothing put_front took added = fault_part put is blank none holds meant refuses nothing put_front took added
 
 -- where a reply was told in part
 pub if_front : (r : Result Next Fault) (text : List ℕ) (taken taken' : Option (List ℕ)) (P : Fault → Type 0) → IfErr r (λ fault. fault ≡ Write) → OnErr r (TakesFront taken taken' text)

@@ -1,7 +1,7 @@
 -- Sessions, line by line.
 use Rattle.std.proofs.Common.{◌≡◌, ◌⊎◌, ℕ, Bool, true, false, if◌then◌else◌, List, [], ◌∷◌, ◌++◌, length, codes, nat_le, Option, None, Some, Ok, Err, inl, inr, refl, sym, ap, ◌∙◌, subst, append_assoc, append-nil, arith}
 use Rattle.std.specs.declared.result.Result.{Result}
-use Rattle.std.specs.Prelude.{IfOk, OnOk}
+use Rattle.std.specs.Prelude.{◌≢◌, IfOk, OnOk}
 use Rattle.c_session.specs.declared.command.Command.{Command}
 use Rattle.c_session.specs.declared.command.Command.TheVariants.{Break, Clear, Continue, Step, Turns, Frames, Frame, Print, Eval, Assign, Quit, Regs, Code, Ps}
 use Rattle.c_session.specs.Commands.{Refusal, refusal_text}
@@ -25,11 +25,11 @@ use Rattle.session.specs.declared.conversation.Session.{Session}
 use Rattle.session.specs.Answered.{state_of, refusal_reply}
 use Rattle.session.specs.Answered.{Answers as Replied}
 use Rattle.session.specs.Meant.{Hosts, Represents, Answered, AnswersAs, MeantAnswers, IsSaidIfAny}
-use Rattle.session.specs.Wanting.{LeavesIfAny, RepresentsAgain, WithSides}
+use Rattle.session.specs.Wanting.{LeavesIfAny, LeavesTarget, RepresentsAgain, WithSides}
 use Rattle.ldb_top.specs.declared.serving.Next.{Next}
 use Rattle.ldb_top.specs.declared.serving.Next.TheVariants as next
 use Rattle.ldb_top.specs.Ahead.{Lines, line_and, lines_if}
-use Rattle.ldb_top.specs.Conversed.{commands_in, wanting_line, asks_sides, refused_in, IsPassed, IsOpen, IsNext, Converses, Told}
+use Rattle.ldb_top.specs.Conversed.{commands_in, wanting_line, asks_sides, refused_in, OnlyLooks, Assigns, IsPassed, IsOpen, IsNext, Converses, Told}
 use Rattle.ldb_top.specs.Fronts.{BreaksOff}
 use Rattle.ldb_top.specs.Conversing.{Grows, IsOver, Here, here, IsSo, GoesSo, NextIsSo}
 use Rattle.ldb_top.specs.Late.{asks_quit}
@@ -37,8 +37,12 @@ use Rattle.ldb_top.proofs.Growing.{grows_on, grows_same}
 
 -- ---- which lines have a reply
 
--- whether the session's contract tells what a line means
-pub said_or_not : (c : Option Command) → IsSaidIfAny c ⊎ (¬ IsSaidIfAny c)
+-- a command of which the session's contract doesn't tell what it says
+abbrev pub IsUntold : Option Command → Type 0
+IsUntold c = OnlyLooks c ⊎ Assigns c
+
+-- whether it tells what a line means
+pub said_or_not : (c : Option Command) → IsSaidIfAny c ⊎ IsUntold c
 said_or_not None = inl tt
 said_or_not (Some (Break x)) = inl tt
 said_or_not (Some (Clear x)) = inl tt
@@ -48,12 +52,26 @@ said_or_not (Some (Turns x)) = inl tt
 said_or_not (Some Frames) = inl tt
 said_or_not (Some (Frame x)) = inl tt
 said_or_not (Some (Print x)) = inl tt
-said_or_not (Some (Eval x)) = inr (λ h. h)
-said_or_not (Some (Assign x)) = inr (λ h. h)
+said_or_not (Some (Eval x)) = inr (inl tt)
+said_or_not (Some (Assign x)) = inr (inr tt)
 said_or_not (Some Quit) = inl tt
 said_or_not (Some Regs) = inl tt
-said_or_not (Some (Code x)) = inr (λ h. h)
+said_or_not (Some (Code x)) = inr (inl tt)
 said_or_not (Some (Ps x)) = inl tt
+
+-- a command that only looks asks the sides
+looks_ask : (c : Option Command) → OnlyLooks c → asks_sides c ≡ true
+looks_ask (Some (Eval x)) n = refl
+looks_ask (Some (Code x)) n = refl
+looks_ask None n = absurd n
+looks_ask (Some c) n = absurd n
+
+-- and doesn't resume
+looks_stays : (c : Option Command) → OnlyLooks c → (k : Command) × (c ≡ Some k) × (k ≢ Continue) × (k ≢ Step)
+looks_stays (Some (Eval x)) n = (Eval x, refl, λ e. cc, λ e. cc)
+looks_stays (Some (Code x)) n = (Code x, refl, λ e. cc, λ e. cc)
+looks_stays None n = absurd n
+looks_stays (Some c) n = absurd n
 
 -- a line that asks none
 abbrev AsksNone : Option Command → Type 0
@@ -101,10 +119,36 @@ RefusesLine s s' line bytes r = (k : Command) (u : Refusal) → read_of s.raw li
 abbrev pub StandsAgain : (s s' : Session World) → (line : List ℕ) → SessionState → Type 0
 StandsAgain s s' line st = RepresentsAgain (LeavesIfAny (read_of s.raw line)) machine_behaviour near_conduct (Some s'.talk.memory.below.below.below.link) s'.first s'.second s'.mode s'.limit st
 
--- so it is behind an answer that there was no memory
+-- so it is behind an answer that leaves the targets
 abbrev pub PassesLine : (s s' : Session World) → (line : List ℕ) → SessionState → Result Answer End → Type 0
 PassesLine s s' line st r =
-    (hs : Hosts) → Represents machine_behaviour near_conduct (Some s.talk.memory.below.below.below.link) s.first s.second s.mode s.limit hs st → r ≡ Ok answer.NoMemory → StandsAgain s s' line st
+    (hs : Hosts) → Represents machine_behaviour near_conduct (Some s.talk.memory.below.below.below.link) s.first s.second s.mode s.limit hs st → LeavesTarget (read_of s.raw line) r → StandsAgain s s' line st
+
+-- a command that only looks puts nothing
+abbrev pub LooksSilent : Session World → (line bytes : List ℕ) → Type 0
+LooksSilent s line bytes = OnlyLooks (read_of s.raw line) → bytes ≡ []
+
+pub looks_silent : (s : Session World) (line bytes : List ℕ) → ((k : Command) → read_of s.raw line ≡ Some k → k ≢ Continue → k ≢ Step → bytes ≡ []) → LooksSilent s line bytes
+looks_silent s line bytes f n = (let k = looks_stays (read_of s.raw line) n in f k.0 k.1 k.2 k.3)
+
+-- an answer of lines to such a command leaves the targets
+looks_leave : (c : Option Command) (text : List ℕ) → OnlyLooks c → LeavesTarget c (Ok (answer.Lines text))
+looks_leave (Some (Eval x)) text n = tt
+looks_leave (Some (Code x)) text n = tt
+looks_leave None text n = absurd n
+looks_leave (Some c) text n = absurd n
+
+leave_looks : (c : Option Command) (text : List ℕ) → LeavesTarget c (Ok (answer.Lines text)) → OnlyLooks c
+leave_looks (Some (Eval x)) text n = tt
+leave_looks (Some (Code x)) text n = tt
+leave_looks None text n = absurd n
+leave_looks (Some c) text n = absurd n
+
+-- and the session's state
+pub keeps_mode : (s s' : Session World) (line text : List ℕ) (r : Result Answer End) → r ≡ Ok (answer.Lines text) → ((k : Command) → read_of s.raw line ≡ Some k → k ≢ Continue → k ≢ Step → (s'.mode ≡ s.mode) ⊎ Rose 0 0) → LeavesTarget (read_of s.raw line) r → s'.mode ≡ s.mode
+keeps_mode s s' line text r is f n =
+    let k = looks_stays (read_of s.raw line) (leave_looks (read_of s.raw line) text (subst (LeavesTarget (read_of s.raw line)) is n)) in
+    elim (f k.0 k.1 k.2 k.3) [ inl kept ↦ kept | inr rose ↦ absurd (none_rose rose) ]
 
 -- ---- one line
 
@@ -188,12 +232,12 @@ answered_so raw st s s' line lines taken taken' out out' kept text bytes full ov
     (put ∙ ap Some (sym (a.written ∙ ap (λ x. st.written ++ x) added)))
 
 -- a line that is passed
-passed_so : (raw : Bool) (st : SessionState) (s s' : Session World) (line : List ℕ) (lines : Option Lines) (taken taken' out out' : Option (List ℕ)) (bytes : List ℕ) → is_empty line ≡ false → IsOver raw s st → s'.raw ≡ s.raw → StandsAgain s s' line st
-    → bytes ≡ [] → asks_sides (read_of raw line) ≡ true → refused_in st.state (read_of raw line) ≡ None
-    → taken' ≡ known_and taken wanting_line → out' ≡ Some (st.written ++ bytes) → GoesSo raw st (here (line_and line lines) taken out) s' (here lines taken' out')
-passed_so raw st s s' line lines taken taken' out out' bytes full over raws again nothing asks why told put =
-    on_so raw st again.after s' line lines taken taken' out out' wanting_line full (record { hosts = again.hosts; represents = again.represents; raw_is = raws ∙ over.raw_is })
-    (inr (record { asks = asks; unrefused = why; reply_is = refl; leaves = subst (λ r. WithSides (LeavesIfAny (read_of r line)) st again.after) over.raw_is again.changed })) told
+passed_so : (raw : Bool) (st : SessionState) (s s' : Session World) (line : List ℕ) (lines : Option Lines) (taken taken' out out' : Option (List ℕ)) (text bytes : List ℕ) → is_empty line ≡ false → IsOver raw s st → s'.raw ≡ s.raw → StandsAgain s s' line st
+    → bytes ≡ [] → asks_sides (read_of raw line) ≡ true → refused_in st.state (read_of raw line) ≡ None → (text ≡ wanting_line) ⊎ OnlyLooks (read_of raw line)
+    → taken' ≡ known_and taken text → out' ≡ Some (st.written ++ bytes) → GoesSo raw st (here (line_and line lines) taken out) s' (here lines taken' out')
+passed_so raw st s s' line lines taken taken' out out' text bytes full over raws again nothing asks why is told put =
+    on_so raw st again.after s' line lines taken taken' out out' text full (record { hosts = again.hosts; represents = again.represents; raw_is = raws ∙ over.raw_is })
+    (inr (record { asks = asks; unrefused = why; reply_is = is; leaves = subst (λ r. WithSides (LeavesIfAny (read_of r line)) st again.after) over.raw_is again.changed })) told
     (put ∙ ap Some (ap (λ x. st.written ++ x) nothing ∙ append-nil st.written ∙ sym (ap (λ (x : SessionState). x.written) again.changed.same)))
 
 -- a line that was answered and left the session as it was
@@ -262,37 +306,41 @@ module _ (raw : Bool) (st : SessionState) (s s' : Session World) (line : List �
   refused_why (Some k) u e why f = f k u e (subst (λ x. refused_by_state x k ≡ Some u) over.represents.state why)
 
   -- a command of which it isn't told what it says, by whether the state refuses it
-  untold_so : (text : List ℕ) (why : Option Refusal) → refused_in st.state (read_of raw line) ≡ why → ¬ IsSaidIfAny (read_of raw line) → is_empty line ≡ false → r ≡ Ok (answer.Lines text) → RefusesLine s s' line bytes r
+  untold_so : (text : List ℕ) (why : Option Refusal) → refused_in st.state (read_of raw line) ≡ why → IsUntold (read_of raw line) → is_empty line ≡ false → r ≡ Ok (answer.Lines text) → s'.raw ≡ s.raw → RefusesLine s s' line bytes r → LooksSilent s line bytes → PassesLine s s' line st r
       → taken' ≡ known_and taken text → out' ≡ Some (st.written ++ bytes) → GoesSo raw st (here (line_and line lines) taken out) s' (here lines taken' out')
-  untold_so text None e untold full is refuses told put = open_so raw st s' line lines taken taken' out out' text bytes full told put (untold, e)
-  untold_so text (Some u) e untold full is refuses told put =
+  untold_so text None e (inr assigns) full is raws refuses silent passes told put = open_so raw st s' line lines taken taken' out out' text bytes full told put (assigns, e)
+  untold_so text None e (inl looks) full is raws refuses silent passes told put =
+      let mine : OnlyLooks (read_of s.raw line) = subst (λ x. OnlyLooks (read_of x line)) (sym over.raw_is) looks in
+      let leaves : LeavesTarget (read_of s.raw line) r = subst (LeavesTarget (read_of s.raw line)) (sym is) (looks_leave (read_of s.raw line) text mine) in
+      passed_so raw st s s' line lines taken taken' out out' text bytes full over raws (passes over.hosts over.represents leaves) (silent mine) (looks_ask (read_of raw line) looks) e (inr looks) told put
+  untold_so text (Some u) e untold full is raws refuses silent passes told put =
       let said = refused_why (read_of s.raw line) u refl (subst (λ x. refused_in st.state (read_of x line) ≡ Some u) (sym over.raw_is) e) refuses in
       let reply : text ≡ refusal_reply u = subst (Replied (refusal_reply u)) is said.0 in
       refused_so raw st s s' line lines taken taken' out out' u full over said.1 e (told ∙ ap (λ x. known_and taken x) reply) (put ∙ ap (λ x. Some (st.written ++ x)) said.2 ∙ ap Some (append-nil st.written))
 
   -- with this text
-  said_so : (text : List ℕ) → (c : Option Command) → c ≡ read_of s.raw line → IsSaidIfAny c ⊎ (¬ IsSaidIfAny c) → is_empty line ≡ false → r ≡ Ok (answer.Lines text) → s'.raw ≡ s.raw → kept ≡ Some [] → kept' ≡ Some bytes → AnswersLine s s' line st kept kept' r → RefusesLine s s' line bytes r
+  said_so : (text : List ℕ) → (c : Option Command) → c ≡ read_of s.raw line → IsSaidIfAny c ⊎ IsUntold c → is_empty line ≡ false → r ≡ Ok (answer.Lines text) → s'.raw ≡ s.raw → kept ≡ Some [] → kept' ≡ Some bytes → AnswersLine s s' line st kept kept' r → RefusesLine s s' line bytes r → LooksSilent s line bytes → PassesLine s s' line st r
       → taken' ≡ known_and taken text → out' ≡ Some (st.written ++ bytes) → GoesSo raw st (here (line_and line lines) taken out) s' (here lines taken' out')
-  said_so text c e (inl said) full is raws none holds meant refuses told put =
+  said_so text c e (inl said) full is raws none holds meant refuses silent passes told put =
       elim (subst (λ x. AnswersAs machine_behaviour near_conduct (Some s'.talk.memory.below.below.below.link) s'.first s'.second s'.mode s'.limit st kept kept' (MeantAnswers machine_behaviour st (read_of s.raw line)) 0 0 s.broken x) is (meant over.hosts over.represents full (subst (λ x. IsSaidIfAny x) e said))) [
         | inl off ↦ absurd (none_rose off.0)
         | inr a ↦ answered_so raw st s s' line lines taken taken' out out' kept' text bytes full over raws (subst (λ k. Answered machine_behaviour near_conduct (Some s'.talk.memory.below.below.below.link) s'.first s'.second s'.mode s'.limit st k kept' (MeantAnswers machine_behaviour st (read_of s.raw line)) text) none a) holds told put
       ]
-  said_so text c e (inr untold) full is raws none holds meant refuses told put =
-      untold_so text (refused_in st.state (read_of raw line)) refl (subst (λ x. ¬ IsSaidIfAny x) (e ∙ ap (λ x. read_of x line) over.raw_is) untold) full is refuses told put
+  said_so text c e (inr untold) full is raws none holds meant refuses silent passes told put =
+      untold_so text (refused_in st.state (read_of raw line)) refl (subst (λ x. IsUntold x) (e ∙ ap (λ x. read_of x line) over.raw_is) untold) full is raws refuses silent passes told put
 
   lines_either : (text : List ℕ) (b : Bool) → is_empty line ≡ b → r ≡ Ok (answer.Lines text) → (is_empty line ≡ true → r ≡ Ok (answer.Lines [])) → (read_of s.raw line ≡ None → (s' ≡ s) × (bytes ≡ [])) → s'.raw ≡ s.raw → kept ≡ Some [] → kept' ≡ Some bytes
-      → AnswersLine s s' line st kept kept' r → RefusesLine s s' line bytes r → taken' ≡ known_and taken text → out' ≡ Some (st.written ++ bytes) → GoesSo raw st (here (line_and line lines) taken out) s' (here lines taken' out')
-  lines_either text true e is blank same raws none holds meant refuses told put =
+      → AnswersLine s s' line st kept kept' r → RefusesLine s s' line bytes r → LooksSilent s line bytes → PassesLine s s' line st r → taken' ≡ known_and taken text → out' ≡ Some (st.written ++ bytes) → GoesSo raw st (here (line_and line lines) taken out) s' (here lines taken' out')
+  lines_either text true e is blank same raws none holds meant refuses silent passes told put =
       let stays = same (blank_none s.raw line e) in
       let empty : text ≡ [] = cc (is, blank e) in
       let nothing : bytes ≡ [] = stays.1 in
       blank_so raw st s s' line lines taken taken' out out' e over stays.0 (told ∙ ap (λ x. known_and taken x) empty) (put ∙ ap (λ x. Some (st.written ++ x)) nothing ∙ ap Some (append-nil st.written))
-  lines_either text false e is blank same raws none holds meant refuses told put = said_so text (read_of s.raw line) refl (said_or_not (read_of s.raw line)) e is raws none holds meant refuses told put
+  lines_either text false e is blank same raws none holds meant refuses silent passes told put = said_so text (read_of s.raw line) refl (said_or_not (read_of s.raw line)) e is raws none holds meant refuses silent passes told put
 
   pub lines_so : (text : List ℕ) → r ≡ Ok (answer.Lines text) → (is_empty line ≡ true → r ≡ Ok (answer.Lines [])) → (read_of s.raw line ≡ None → (s' ≡ s) × (bytes ≡ [])) → s'.raw ≡ s.raw → kept ≡ Some [] → kept' ≡ Some bytes
-      → AnswersLine s s' line st kept kept' r → RefusesLine s s' line bytes r → taken' ≡ known_and taken text → out' ≡ Some (st.written ++ bytes) → GoesSo raw st (here (line_and line lines) taken out) s' (here lines taken' out')
-  lines_so text is blank same raws none holds meant refuses told put = lines_either text (is_empty line) refl is blank same raws none holds meant refuses told put
+      → AnswersLine s s' line st kept kept' r → RefusesLine s s' line bytes r → LooksSilent s line bytes → PassesLine s s' line st r → taken' ≡ known_and taken text → out' ≡ Some (st.written ++ bytes) → GoesSo raw st (here (line_and line lines) taken out) s' (here lines taken' out')
+  lines_so text is blank same raws none holds meant refuses silent passes told put = lines_either text (is_empty line) refl is blank same raws none holds meant refuses silent passes told put
 
   not_blank : (b : Bool) → is_empty line ≡ b → (is_empty line ≡ true → r ≡ Ok (answer.Lines [])) → (r ≡ Ok (answer.Lines []) → ⊥) → is_empty line ≡ false
   not_blank true e blank unblank = absurd (unblank (blank e))
@@ -317,7 +365,7 @@ module _ (raw : Bool) (st : SessionState) (s s' : Session World) (line : List �
   wanting_why (Some u) e asks unquit nothing full stays raws again refuses told put =
       let said = refused_why (read_of s.raw line) u refl (subst (λ x. refused_in st.state (read_of x line) ≡ Some u) (sym over.raw_is) e) refuses in
       stays_wanting said.1 nothing full (wanting_refused st (read_of raw line) u e) told put
-  wanting_why None e (inl asks) unquit nothing full stays raws again refuses told put = passed_so raw st s s' line lines taken taken' out out' bytes full over raws again nothing asks e told put
+  wanting_why None e (inl asks) unquit nothing full stays raws again refuses told put = passed_so raw st s s' line lines taken taken' out out' wanting_line bytes full over raws again nothing asks e (inl refl) told put
   wanting_why None e (inr none) unquit nothing full stays raws again refuses told put =
       let settled = wanting_settled (read_of raw line) refl none unquit e stays in
       stays_wanting settled.0 nothing full settled.1 told put
@@ -327,7 +375,7 @@ module _ (raw : Bool) (st : SessionState) (s s' : Session World) (line : List �
       → taken' ≡ known_and taken wanting_line → out' ≡ Some (st.written ++ bytes) → GoesSo raw st (here (line_and line lines) taken out) s' (here lines taken' out')
   wanting_so is blank quit nothing stays raws refuses passes told put =
       let full : is_empty line ≡ false = not_blank (is_empty line) refl blank (λ e. cc) in
-      let again : StandsAgain s s' line st = passes over.hosts over.represents is in
+      let again : StandsAgain s s' line st = passes over.hosts over.represents (subst (LeavesTarget (read_of s.raw line)) (sym is) tt) in
       wanting_why (refused_in st.state (read_of raw line)) refl (asks_or_not (read_of raw line)) (λ q. (let e : r ≡ Err end.Quit = quit (ap (λ x. read_of x line) over.raw_is ∙ q) in cc)) nothing full stays raws again refuses told put
 
   -- for `quit`

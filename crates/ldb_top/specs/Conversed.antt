@@ -3,7 +3,7 @@ use Rattle.std.specs.Prelude.{◌≡◌, ◌⊎◌, ℕ, Bool, true, false, if�
 use Rattle.machine_state.specs.State.{Behaviour}
 use Rattle.targets.specs.Targets.{machine_behaviour}
 use Rattle.c_session.specs.declared.command.Command.{Command}
-use Rattle.c_session.specs.declared.command.Command.TheVariants.{Turns, Quit}
+use Rattle.c_session.specs.declared.command.Command.TheVariants.{Turns, Eval, Assign, Code, Quit}
 use Rattle.c_session.specs.Commands.{Refusal}
 use Rattle.cmd_lang.specs.Words.{is_empty}
 use Rattle.cmd_lang.specs.Commands.{read_of}
@@ -13,7 +13,6 @@ use Rattle.claims.specs.Side.{SessionState, State}
 use Rattle.claims.specs.Lines.{Reply}
 use Rattle.claims.specs.Carries.{Converses as MachineConverses}
 use Rattle.claims.specs.Outcome.{Answers, refused_by_state}
-use Rattle.session.specs.Meant.{IsSaidIfAny}
 use Rattle.session.specs.Wanting.{WithSides, LeavesIfAny}
 use Rattle.ldb_top.specs.Ahead.{Lines}
 use Rattle.ldb_top.specs.Late.{asks_quit}
@@ -45,17 +44,27 @@ asks_sides (Some c) = true
 
 -- ---- lines that aren't answered as in the machine session
 
--- A command that asks the sides, in a state that doesn't refuse it, and for which there was no memory. Behind it the session is as before, over the
--- tables that it has then; `ps` may have stored numbers to the target.
+-- `eval` and `code`, which store nothing to the target
+abbrev pub OnlyLooks : Option Command → Type 0
+OnlyLooks (Some (Eval text)) = Unit {0}
+OnlyLooks (Some (Code text)) = Unit {0}
+OnlyLooks c = ⊥
+
+abbrev pub Assigns : Option Command → Type 0
+Assigns (Some (Assign text)) = Unit {0}
+Assigns c = ⊥
+
+-- A command that asks the sides, in a state that doesn't refuse it, and for which there was no memory, or of which isn't told what it says. Behind
+-- it the session is as before, over the tables that it has then; `ps` may have stored numbers to the target.
 pub record IsPassed (st : SessionState) (c : Option Command) (reply : List ℕ) (next : SessionState) : Type 0 where
   pub asks : asks_sides c ≡ true
   pub unrefused : refused_in st.state c ≡ None
-  pub reply_is : reply ≡ wanting_line
+  pub reply_is : (reply ≡ wanting_line) ⊎ OnlyLooks c
   pub leaves : WithSides (LeavesIfAny c) st next
 
--- A command whose meaning the session's contract doesn't tell, in a state that doesn't refuse it: from there on nothing is said of the transcript.
+-- `assign`, where the state doesn't refuse it: from there on nothing is said of the transcript.
 abbrev pub IsOpen : SessionState → Option Command → Type 0
-IsOpen st c = (¬ IsSaidIfAny c) × (refused_in st.state c ≡ None)
+IsOpen st c = Assigns c × (refused_in st.state c ≡ None)
 
 -- ---- a conversation
 

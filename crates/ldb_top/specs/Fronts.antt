@@ -1,5 +1,5 @@
 -- What a session that a fault ended has told and put: a front of a conversation.
-use Rattle.std.specs.Prelude.{◌≡◌, ◌≢◌, ◌⊎◌, ℕ, Bool, true, false, List, [], ◌∷◌, ◌++◌, take, Option, Some}
+use Rattle.std.specs.Prelude.{◌≡◌, ◌≢◌, ◌⊎◌, ℕ, Bool, true, false, List, [], ◌∷◌, ◌++◌, take, Option, None, Some}
 use Rattle.targets.specs.Targets.{machine_behaviour}
 use Rattle.c_session.specs.declared.command.Command.{Command}
 use Rattle.asking_meaning.specs.Meant.{joined}
@@ -10,7 +10,7 @@ use Rattle.claims.specs.Side.{SessionState}
 use Rattle.claims.specs.Lines.{Reply}
 use Rattle.claims.specs.Outcome.{Answers}
 use Rattle.ldb_top.specs.Ahead.{Lines}
-use Rattle.ldb_top.specs.Conversed.{Told, IsNext, IsPassed, IsOpen, HasConversed, commands_in, wanting_line}
+use Rattle.ldb_top.specs.Conversed.{Told, IsNext, IsPassed, IsOpen, OnlyLooks, HasConversed, commands_in, refused_in, wanting_line}
 use Rattle.ldb_top.specs.Late.{asks_quit, LateAs}
 use Rattle.ldb_top.specs.Lines.{late_line}
 use Rattle.ldb_top.specs.Said.{IsFront}
@@ -30,11 +30,11 @@ pub record IsAnsweredInPart (fault : Fault) (st : SessionState) (c : Option Comm
   pub output_first : (told ≡ []) ⊎ (put ≡ next.written)
   pub silent : fault ≢ Write → told ≡ []
 
--- that there was no memory for it couldn't be written whole, and nothing was put
-pub record IsWanting (fault : Fault) (st : SessionState) (c : Option Command) (told put : List ℕ) : Type 0 where
+-- A reply that isn't told as the machine session's couldn't be written whole, and nothing was put: that there was no memory, or what a command
+-- says that only looks.
+pub record IsCutShort (fault : Fault) (st : SessionState) (c : Option Command) (told put : List ℕ) : Type 0 where
   pub unwritten : fault ≡ Write
-  pub no_quit : asks_quit c ≡ false
-  pub told_front : IsFront told wanting_line
+  pub told_front : ((asks_quit c ≡ false) × IsFront told wanting_line) ⊎ (OnlyLooks c × (refused_in st.state c ≡ None))
   pub none_put : put ≡ st.written
 
 -- ---- a conversation that is broken off
@@ -47,7 +47,7 @@ module _ (fault : Fault) where
   BreaksOff st (c ∷ cs) told put =
       ((told ≡ []) × (put ≡ st.written))
       ⊎ (IsAnsweredInPart fault st c told put
-      ⊎ (IsWanting fault st c told put
+      ⊎ (IsCutShort fault st c told put
       ⊎ ((IsOpen st c × IsFront st.written put)
       ⊎ ((reply : List ℕ) × (rest : List ℕ) × (next : SessionState) × IsNext IsPassed machine_behaviour st c reply next × (told ≡ reply ++ rest) × BreaksOff next cs rest put))))
 

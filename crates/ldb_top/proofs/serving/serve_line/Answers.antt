@@ -11,7 +11,7 @@ use Rattle.ldb_top.specs.Ahead.{line_and}
 use Rattle.ldb_top.specs.Conversed.{wanting_line}
 use Rattle.ldb_top.specs.Conversing.{here, IsPart}
 use Rattle.ldb_top.specs.Output.{held_under}
-use Rattle.ldb_top.proofs.Conversations.{lines_so, wanting_so, ended_so, if_line}
+use Rattle.ldb_top.proofs.Conversations.{lines_so, wanting_so, ended_so, if_line, looks_silent, keeps_mode}
 use Rattle.ldb_top.proofs.Broken.{written_not_read, memory_not_read, whole_front, take_front, if_front, lines_part, wanting_part, fault_part, cut_part}
 use Rattle.ldb_top.proofs.Growing.{grows_front}
 use Rattle.ldb_top.proofs.Lates.{follows_answer}
@@ -53,7 +53,9 @@ returns-in-Ok-Lines-clause-so g c = λ raw st lines over put.
     lines_so raw st c.args.session.now c.command-answer.new.self c.args.line.now lines taken taken' out out' _ _ bytes c.command-answer.result over c.as_bytes.result.now is c.command-answer.ensures.blank
     (λ none. (let h = c.command-answer.ensures.line none in (h.1, cc (h.2, c.bytes.ensures, c.new-written.ensures.taken, c.new.ensures.items)))) c.command-answer.ensures.raw
     (c.new-written.ensures.taken ∙ ap Some c.new.ensures.items) c.bytes.ensures (λ hs represents full said. c.command-answer.ensures.meant machine_behaviour hs st steady represents full said)
-    (λ k u e why. (let h = c.command-answer.ensures.refused k u e why in (h.0, h.1, cc (h.2, c.bytes.ensures, c.new-written.ensures.taken, c.new.ensures.items)))) told (c.in-Ok.ensures.added st.written put))
+    (λ k u e why. (let h = c.command-answer.ensures.refused k u e why in (h.0, h.1, cc (h.2, c.bytes.ensures, c.new-written.ensures.taken, c.new.ensures.items)))) (looks_silent c.args.session.now c.args.line.now bytes (λ k e n m. (let h = c.command-answer.ensures.asked k e n m in cc (h.0, c.bytes.ensures, c.new-written.ensures.taken, c.new.ensures.items))))
+    (λ hs represents leaves. c.command-answer.ensures.stays machine_behaviour hs st represents leaves (keeps_mode c.args.session.now c.command-answer.new.self c.args.line.now c.as_bytes.result.now c.command-answer.result is
+    (λ k e n m. c.command-answer.ensures.target machine_behaviour hs st k represents e n m) leaves)) told (c.in-Ok.ensures.added st.written put))
 
 pub returns-in-Ok-NoMemory-clause-so : goal.returns-in-Ok-NoMemory-clause-so
 returns-in-Ok-NoMemory-clause-so g c = λ raw st lines over put.
@@ -73,7 +75,7 @@ returns-in-Ok-NoMemory-clause-so g c = λ raw st lines over put.
       ];
     })
     c.command-answer.ensures.raw (λ k u e why. (let h = c.command-answer.ensures.refused k u e why in (h.0, h.1, cc (h.2, c.bytes.ensures, c.new-written.ensures.taken, c.new.ensures.items))))
-    (λ hs represents is. c.command-answer.ensures.stays machine_behaviour hs st represents is) told (c.in-Ok.ensures.added st.written put))
+    (λ hs represents leaves. c.command-answer.ensures.stays machine_behaviour hs st represents leaves (c.command-answer.ensures.no_memory is).0) told (c.in-Ok.ensures.added st.written put))
 
 pub returns-in-Err-Quit-clause-so : goal.returns-in-Err-Quit-clause-so
 returns-in-Err-Quit-clause-so g c = λ raw st lines over put.
@@ -97,7 +99,7 @@ returns-in-Err-clause-part g c = λ raw st lines over put.
     (λ e. (let h = c.command-answer.ensures.no_memory e in cc (h.4, c.bytes.ensures, c.new-written.ensures.taken, c.new.ensures.items)))
     (λ e. (let h = c.command-answer.ensures.asked Quit (c.command-answer.ensures.quits e) (λ q. cc) (λ q. cc) in cc (h.0, c.bytes.ensures, c.new-written.ensures.taken, c.new.ensures.items)))
     (c.new-written.ensures.taken ∙ ap Some c.new.ensures.items) c.bytes.ensures (λ hs represents full said. c.command-answer.ensures.meant machine_behaviour hs st steady represents full said)
-    (λ k u e why. (let h = c.command-answer.ensures.refused k u e why in (h.0, h.1, cc (h.2, c.bytes.ensures, c.new-written.ensures.taken, c.new.ensures.items)))) (take_front f.count bytes) refl f.is
+    (λ k u e why. (let h = c.command-answer.ensures.refused k u e why in (h.0, h.1, cc (h.2, c.bytes.ensures, c.new-written.ensures.taken, c.new.ensures.items)))) (looks_silent c.args.session.now c.args.line.now bytes (λ k e n m. (let h = c.command-answer.ensures.asked k e n m in cc (h.0, c.bytes.ensures, c.new-written.ensures.taken, c.new.ensures.items)))) (take_front f.count bytes) refl f.is
 
 pub returns-in-Ok-Lines-clause-part : goal.returns-in-Ok-Lines-clause-part
 returns-in-Ok-Lines-clause-part g c = λ raw st lines over put.
@@ -112,7 +114,7 @@ returns-in-Ok-Lines-clause-part g c = λ raw st lines over put.
     lines_part Write written_not_read raw st c.args.session.now c.command-answer.new.self c.args.line.now lines taken taken' out out' _ _ bytes c.command-answer.result over text (take n text) bytes is c.command-answer.ensures.blank
     (λ none. (let h = c.command-answer.ensures.line none in cc (h.2, c.bytes.ensures, c.new-written.ensures.taken, c.new.ensures.items)))
     (c.new-written.ensures.taken ∙ ap Some c.new.ensures.items) c.bytes.ensures (λ hs represents full said. c.command-answer.ensures.meant machine_behaviour hs st steady represents full said)
-    (λ k u e why. (let h = c.command-answer.ensures.refused k u e why in (h.0, h.1, cc (h.2, c.bytes.ensures, c.new-written.ensures.taken, c.new.ensures.items)))) (take_front n text) (whole_front bytes) (inr refl) (λ w. absurd (w refl)) told (c.in-Ok.ensures.added st.written put))
+    (λ k u e why. (let h = c.command-answer.ensures.refused k u e why in (h.0, h.1, cc (h.2, c.bytes.ensures, c.new-written.ensures.taken, c.new.ensures.items)))) (looks_silent c.args.session.now c.args.line.now bytes (λ k e n m. (let h = c.command-answer.ensures.asked k e n m in cc (h.0, c.bytes.ensures, c.new-written.ensures.taken, c.new.ensures.items)))) (take_front n text) (whole_front bytes) (inr refl) (λ w. absurd (w refl)) told (c.in-Ok.ensures.added st.written put))
 
 pub returns-in-Ok-NoMemory-clause-part : goal.returns-in-Ok-NoMemory-clause-part
 returns-in-Ok-NoMemory-clause-part g c = λ raw st lines over put.
@@ -136,4 +138,4 @@ returns-clause-part g c = λ raw st lines over put.
     let is : c.command-answer.result ≡ Err end.OutFault = first_of (search rules, grind (arith, common_steps)) in
     fault_part NoMemory memory_not_read raw st c.args.session.now c.command-answer.new.self c.args.line.now lines taken taken out out' _ _ bytes c.command-answer.result over bytes is c.command-answer.ensures.blank
     (c.new-written.ensures.taken ∙ ap Some c.new.ensures.items) c.bytes.ensures (λ hs represents full said. c.command-answer.ensures.meant machine_behaviour hs st steady represents full said)
-    (λ k u e why. (let h = c.command-answer.ensures.refused k u e why in (h.0, h.1, cc (h.2, c.bytes.ensures, c.new-written.ensures.taken, c.new.ensures.items)))) (whole_front bytes) refl (c.in-Ok.ensures.added st.written put)
+    (λ k u e why. (let h = c.command-answer.ensures.refused k u e why in (h.0, h.1, cc (h.2, c.bytes.ensures, c.new-written.ensures.taken, c.new.ensures.items)))) (looks_silent c.args.session.now c.args.line.now bytes (λ k e n m. (let h = c.command-answer.ensures.asked k e n m in cc (h.0, c.bytes.ensures, c.new-written.ensures.taken, c.new.ensures.items)))) (whole_front bytes) refl (c.in-Ok.ensures.added st.written put)
