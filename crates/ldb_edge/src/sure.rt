@@ -70,9 +70,15 @@ impl Sink for SureSink {
 
     ghost calls = { λ s. ⟦<MemSink as Sink>⟧.calls s.sink };
 
+    ghost leads = { λ _ _. Unit {0} };
+
     fn write(&mut self, piece: &[u8]) -> Result<usize, Failed> {
         self.sink.write(piece)
     }
+
+    ghost stays = { λ _. tt };
+
+    ghost goes_on = { λ _ _ _ _ _. tt };
 }
 
 /// Files in memory. No read fails, and no write but one that finds no memory.

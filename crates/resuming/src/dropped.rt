@@ -15,7 +15,13 @@ impl Sink for Dropped {
 
     ghost calls = { λ _. None };
 
+    ghost leads = { λ _ _. Unit {0} };
+
     fn write(&mut self, piece: &[u8]) -> Result<usize, Failed> {
         Ok(piece.len())
     }
+
+    ghost stays = { λ _. tt };
+
+    ghost goes_on = { λ _ _ _ _ _. tt };
 }
