@@ -88,7 +88,7 @@ read_room sc s names _ (array e t p st is) o i r = stands_room sc s names e t p 
 read_room sc s names _ (address h b e t p st) o i r = stands_room sc s names e t p st o i r
 
 mutual
-  room : (sc : Scene) (s : StoreState) (names : List Symbol) (e : Typed) → IsEvaluated sc s names e → (o i : ℕ) → RoomFor e o i → Room o i
+  pub room : (sc : Scene) (s : StoreState) (names : List Symbol) (e : Typed) → IsEvaluated sc s names e → (o i : ℕ) → RoomFor e o i → Room o i
   room sc s names _ (constant h n low) o i r = r
   room sc s names _ (size h p a low) o i r = r
   room sc s names _ (size_of_type h t low) o i r = r

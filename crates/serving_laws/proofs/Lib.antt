@@ -6,7 +6,6 @@ mod Operating
 mod Values
 mod Places
 mod Reading
-mod Texts
 mod Taking
 mod Evaluating
 mod Objects
@@ -14,4 +13,6 @@ mod Pointing
 mod Comparing
 mod Pointers
 mod Evaluated
+mod Kept
+mod Texts
 mod Examples
