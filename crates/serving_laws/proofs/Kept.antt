@@ -1,10 +1,13 @@
 -- What names, addresses and expressions find in a store is the same where objects were added.
-use Rattle.std.proofs.Common.{◌≡◌, refl, sym, ap, subst, ◌∙◌, ℕ, zero, suc, ◌+◌, ◌-◌, ◌*◌, ◌<◌, Bool, true, false, ◌&&◌, ◌||◌, nat_eq, nat_lt, nat_le, if◌then◌else◌, Option, Some, None, Result, Ok, Err, List, [], ◌∷◌, ◌++◌, length, codes, get_or, slice_index_or, arith}
+use Rattle.std.proofs.Common.{◌≡◌, inl, inr, refl, sym, ap, subst, ◌∙◌, ℕ, zero, suc, ◌-◌, ◌<◌, Bool, true, false, ◌&&◌, ◌||◌, nat_eq, nat_lt, nat_le, if◌then◌else◌, Option, Some, None, Ok, Err, List, [], ◌∷◌, ◌++◌, length, codes, slice_index_or, arith}
 use Rattle.std.specs.Prelude.{option_map, bytes_eq, is_none}
-use Rattle.std.specs.List.{list_any, AllByRecursion}
+use Rattle.std.specs.List.{AllByRecursion}
 use Rattle.ldb_words.specs.Word.{sum_of, difference_of, word_of_signed}
 use Rattle.c_tree.specs.declared.types.CType.{CType}
+use Rattle.c_tree.specs.declared.typed.BinaryOp.{BinaryOp}
+use Rattle.c_tree.specs.declared.typed.BinaryOp.TheVariants.{Add}
 use Rattle.c_tree.specs.declared.typed.Typed.{Typed}
+use Rattle.c_tree.specs.Types.{type_of}
 use Rattle.c_judge.specs.declared.symbol.Symbol.{Symbol}
 use Rattle.ps_store.specs.declared.object.Part.{Part}
 use Rattle.ps_store.specs.declared.object.Part.TheVariants.{Table, Command}
@@ -23,7 +26,7 @@ use Rattle.ps_store.specs.Store.{held, with_held, bytes_of, elements_of, entries
 use Rattle.ps_step.specs.Keys.{or_else, found_in}
 use Rattle.ps_step.specs.Results.{◌>>=◌}
 use Rattle.ps_text.specs.Code.{Code}
-use Rattle.ps_text.specs.Grown.{Grown, more_held, HasString, HasArray, IsString, IsArray}
+use Rattle.ps_text.specs.Grown.{Grown, more_held, HasString, HasArray, IsArray}
 use Rattle.ps_text.specs.Spells.{Spells}
 use Rattle.ps_text.proofs.Growing.{string_kept, array_kept}
 use Rattle.ps_text.proofs.Kept.{spells_kept}
@@ -35,15 +38,15 @@ use Rattle.table_model.specs.declared.row.SavingRow.{SavingRow}
 use Rattle.table_model.specs.declared.row.TargetRow.{TargetRow}
 use Rattle.table_model.specs.declared.row.TargetRow.TheVariants.{Saving, Windows}
 use Rattle.table_model.specs.declared.found.Found.{Found}
-use Rattle.table_model.specs.Reading.{Walked, or_missing, entry, dict_in, items_in, procedure_in, string_in, text_in, number_in, dict_or_null, dict_at, items_at, procedure_at, string_at, text_at, number_at, top_of, or_outside, fetch_at, first_from, first_in, all_from, all_in}
-use Rattle.table_model.specs.Rows.{units_of, functions_in, functions_of, covers, covering, covering_in, function_at, points_of, point_address, standing_at, point_at, nearest, point_below_from, point_below, or_no_point}
+use Rattle.table_model.specs.Reading.{Walked, or_missing, entry, dict_in, items_in, procedure_in, string_in, text_in, number_in, dict_or_null, dict_at, items_at, procedure_at, string_at, text_at, number_at, top_of, or_outside, first_from, all_from}
+use Rattle.table_model.specs.Rows.{units_of, functions_in, functions_of, covers, covering, covering_in, function_at, points_of, point_address, standing_at, nearest, point_below_from, or_no_point}
 use Rattle.table_model.specs.Frames.{Saved, saved_pair, saved_of, saving_frame, window_places, window_frame, framed, context_word, frame_in, words_from, outer_places, kept_at, first_frame, caller_saving, next_saving, next_window, next_frame, MOST_FRAMES, outward, point_in, point_of_row, point_of}
-use Rattle.table_model.specs.Symbols.{MOST_SYMBOLS, scope_of_point, scope_of, uplink_of, named_among, symbol_named, Form, FromBase, Absolute, FromAnchor, Other, is_called, is_local}
+use Rattle.table_model.specs.Symbols.{MOST_SYMBOLS, scope_of, uplink_of, named_among, symbol_named, Form, FromBase, Absolute, FromAnchor, Other, is_called, is_local}
 use Rattle.table_model.specs.Objects.{form_of, anchor_of, address_of, belongs, object_at, object_or_none, found_symbol, as_static, static_object, statics_in, static_at, local_here, local_among, local_at, with_activation, found_outward, found_at}
 use Rattle.c_bytes.specs.Lvalues.{Scene, bytes_with}
 use Rattle.serving_laws.specs.Left.{AreOperators}
 use Rattle.serving_laws.specs.Named.{Leads, at_anchor, in_frame, in_frame_as_register, at_address, in_register, IsNamed, Stands, by_name as at_name, in_struct, in_parens as place_in_parens, IsRead, scalar, array, address, HasSpaces}
-use Rattle.serving_laws.specs.Evaluated.{IsSettled, IsEvaluated, constant, size, size_of_type, by_name, in_parens, cast, on_one, on_two, in_turn, one_of, either, both, pointed_array, pointed_address, pointed_scalar, on_pointers, IsPointed, followed, item, member, member_there, followed_in_parens}
+use Rattle.serving_laws.specs.Evaluated.{object_there, IsSettled, HasSmallObjects, IsCount, IsOffset, OnPointers, on as moves_on, on_by, back, ordered, apart, IsEvaluated, constant, size, size_of_type, by_name, in_parens, cast, on_one, on_two, in_turn, one_of, either, both, pointed_array, pointed_address, pointed_scalar, on_pointers, IsPointed, followed, item, member, member_there, followed_in_parens}
 use Rattle.serving_laws.specs.Texts.{IsThere, IsWhole}
 
 -- ---- dictionaries
@@ -640,8 +643,32 @@ module _ (u : ℕ) (s s' : StoreState) (g : Grown u s s') (whole : IsWhole s) wh
     read_kept _ (array e t p st is) = array e t p (stands_kept e t p st) is
     read_kept _ (address h b e t p st) = address h b e t p (stands_kept e t p st)
 
+    there_kept : (p : ℕ) → object_there sc s' p ≡ object_there sc s p
+    there_kept p = found_at_kept p sc.target.row (bytes_with sc 0) sc.target.context
+
     settled_kept : IsSettled sc s → IsSettled sc s'
-    settled_kept settled p n e = settled p n (sym (found_at_kept p sc.target.row (bytes_with sc 0) sc.target.context) ∙ e)
+    settled_kept settled p n e = settled p n (sym (there_kept p) ∙ e)
+
+    small_kept : HasSmallObjects sc s → HasSmallObjects sc s'
+    small_kept objects = record {
+      small = λ p o e. objects.small p o (sym (there_kept p) ∙ e);
+      told = λ p i o l e within h. objects.told p i o l (sym (there_kept p) ∙ e) within (sym (there_kept (sum_of o.base i)) ∙ h);
+    }
+
+    count_kept : (t : CType) → IsCount sc s t → IsCount sc s' t
+    count_kept t (inl plain) = inl plain
+    count_kept t (inr objects) = inr (small_kept objects)
+
+    offset_kept : (n : ℕ) → IsOffset sc s n → IsOffset sc s' n
+    offset_kept n (inl low) = inl low
+    offset_kept n (inr x) = inr (x.0, small_kept x.1)
+
+    moves_kept : (op : BinaryOp) (k l : CType) → OnPointers sc s op k l → OnPointers sc s' op k l
+    moves_kept _ _ _ (moves_on k l a e e' count low) = moves_on k l a e e' (count_kept l count) low
+    moves_kept _ _ _ (on_by k l a e e' count low) = on_by k l a e e' (count_kept k count) low
+    moves_kept _ _ _ (back k l a e e' count low) = back k l a e e' (count_kept l count) low
+    moves_kept _ _ _ (ordered op k l a b is e e') = ordered op k l a b is e e'
+    moves_kept _ _ _ (apart k l a b e e' low) = apart k l a b e e' low
 
     mutual
       pub evaluated_kept : (e : Typed) → IsEvaluated sc s names e → IsEvaluated sc s' names e
@@ -660,11 +687,11 @@ module _ (u : ℕ) (s s' : StoreState) (g : Grown u s s') (whole : IsWhole s) wh
       evaluated_kept _ (pointed_array e t is at_array) = pointed_array e t (pointed_kept e t is) at_array
       evaluated_kept _ (pointed_address h p e t is) = pointed_address h p e t (pointed_kept e t is)
       evaluated_kept _ (pointed_scalar e t is at_scalar settled) = pointed_scalar e t (pointed_kept e t is) at_scalar (settled_kept settled)
-      evaluated_kept _ (on_pointers h p a op q b moves settled is is') = on_pointers h p a op q b moves (settled_kept settled) (evaluated_kept a is) (evaluated_kept b is')
+      evaluated_kept _ (on_pointers h p a op q b moves settled is is') = on_pointers h p a op q b (moves_kept op (type_of a) (type_of b) moves) (settled_kept settled) (evaluated_kept a is) (evaluated_kept b is')
 
       pointed_kept : (e : Typed) (t : CType) → IsPointed sc s names e t → IsPointed sc s' names e t
       pointed_kept _ _ (followed h p a is) = followed h p a (evaluated_kept a is)
-      pointed_kept _ _ (item h p a q b moves settled is is') = item h p a q b moves (settled_kept settled) (evaluated_kept a is) (evaluated_kept b is')
-      pointed_kept _ _ (member h p a k m row to get low settled is) = member h p a k m row to get low (settled_kept settled) (evaluated_kept a is)
-      pointed_kept _ _ (member_there h p a t k m row is get low settled at) = member_there h p a t k m row is get low (settled_kept settled) (pointed_kept a t at)
+      pointed_kept _ _ (item h p a q b moves settled is is') = item h p a q b (moves_kept Add (type_of a) (type_of b) moves) (settled_kept settled) (evaluated_kept a is) (evaluated_kept b is')
+      pointed_kept _ _ (member h p a k m row to get low settled is) = member h p a k m row to get (offset_kept row.at low) (settled_kept settled) (evaluated_kept a is)
+      pointed_kept _ _ (member_there h p a t k m row is get low settled at) = member_there h p a t k m row is get (offset_kept row.at low) (settled_kept settled) (pointed_kept a t at)
       pointed_kept _ _ (followed_in_parens h p a t is) = followed_in_parens h p a t (pointed_kept a t is)

@@ -10,6 +10,8 @@ mod Taking
 mod Evaluating
 mod Objects
 mod Pointing
+mod Far
+mod Moving
 mod Comparing
 mod Pointers
 mod Evaluated

@@ -1,5 +1,5 @@
 -- The text of an expression is read, and run.
-use Rattle.std.proofs.Common.{◌≡◌, ◌≢◌, refl, sym, ap, subst, ◌∙◌, ℕ, zero, suc, ◌+◌, ◌≤◌, ◌==◌, nat_lt, true, false, Bool, Option, Some, None, Result, Ok, Err, List, [], ◌∷◌, ◌++◌, length, drop, take, slice_index_or, codes, if◌then◌else◌, ◌-◌, arith, lt-ltb, le-ltb, ne_eqb, length-drop, drop-drop, reverse}
+use Rattle.std.proofs.Common.{◌≡◌, ◌≢◌, refl, sym, ap, subst, ◌∙◌, ℕ, zero, suc, ◌+◌, ◌≤◌, ◌==◌, nat_lt, true, false, Bool, Some, None, Result, Ok, Err, List, [], ◌∷◌, ◌++◌, length, drop, take, codes, if◌then◌else◌, ◌-◌, arith, lt-ltb, le-ltb, ne_eqb, length-drop, drop-drop, reverse}
 use Rattle.machine_state.specs.Sound.{IsMemory}
 use Rattle.c_tree.specs.declared.types.StructDef.{StructDef}
 use Rattle.c_tree.specs.declared.typed.Typed.{Typed}
