@@ -63,14 +63,15 @@ use Rattle.expr_serve.specs.Codes.{value_code, place_code, standing_of, address_
 use Rattle.serving_laws.specs.Plain.{RoomFor}
 use Rattle.serving_laws.specs.Left.{AreOperators}
 use Rattle.serving_laws.specs.Named.{IsScalar, Stands, by_name as at_name, in_struct, in_parens as place_in_parens, IsRead, scalar, array, address, dial_in, HasSpaces, dictionaries_in, use_in, ComesTo}
-use Rattle.serving_laws.specs.Evaluated.{IsSettled, OnPointers, IsEvaluated, constant, size, size_of_type, by_name, in_parens, cast, on_one, on_two, in_turn, one_of, either, both, pointed_array, pointed_address, pointed_scalar, on_pointers, IsPointed, followed, item, member, member_there, followed_in_parens, Evaluates, evaluates, ends, spends, AreEvaluated}
+use Rattle.serving_laws.specs.Evaluated.{IsSettled, IsOffset, OnPointers, IsEvaluated, constant, size, size_of_type, by_name, in_parens, cast, on_one, on_two, in_turn, one_of, either, both, pointed_array, pointed_address, pointed_scalar, on_pointers, IsPointed, followed, item, member, member_there, followed_in_parens, Evaluates, evaluates, ends, spends, AreEvaluated}
 use Rattle.serving_laws.proofs.Small.{byte_small}
 use Rattle.serving_laws.proofs.Stepping.{at_bottom, next_reaches}
 use Rattle.serving_laws.proofs.Values.{follows_assoc, follows_stop}
 use Rattle.serving_laws.proofs.Reading.{IsFetched, scalars_fetched, IsHeld, in_memory, in_registers, small, all_held, stands_named, value_code_is, lvalue_reaches, fetch_reaches, address_reaches, scalar_means, unheld_means, array_means, address_means}
 use Rattle.serving_laws.proofs.Taking.{Takes, given, after, stops}
 use Rattle.serving_laws.proofs.Evaluating.{Comes, Roomy, Reached, Behind, Breaks, At, comma_comes, cast_comes, one_comes, taken_come, operands_come, two_come, choice_comes, or_comes, and_comes, number_is_left}
-use Rattle.serving_laws.proofs.Pointers.{near_reaches, pointers_come, scalar_reaches}
+use Rattle.serving_laws.proofs.Moving.{further_reaches}
+use Rattle.serving_laws.proofs.Pointers.{pointers_come, scalar_reaches}
 
 -- ---- room
 
@@ -88,7 +89,7 @@ read_room sc s names _ (array e t p st is) o i r = stands_room sc s names e t p 
 read_room sc s names _ (address h b e t p st) o i r = stands_room sc s names e t p st o i r
 
 mutual
-  room : (sc : Scene) (s : StoreState) (names : List Symbol) (e : Typed) → IsEvaluated sc s names e → (o i : ℕ) → RoomFor e o i → Room o i
+  pub room : (sc : Scene) (s : StoreState) (names : List Symbol) (e : Typed) → IsEvaluated sc s names e → (o i : ℕ) → RoomFor e o i → Room o i
   room sc s names _ (constant h n low) o i r = r
   room sc s names _ (size h p a low) o i r = r
   room sc s names _ (size_of_type h t low) o i r = r
@@ -293,23 +294,17 @@ module _ (sc : Scene) (s : StoreState) (cell : ℕ) (own : DictId) (names : List
 
   -- ---- members and items where a pointer leads
 
-  further_code : (n : ℕ) → n < 2 ^ 31 → further_pieces n ≡ Num (signed n) (Num (pos 1) (Word (codes "ptradd") Stop))
-  further_code n low =
-      let half : nat_lt n 2147483648 ≡ true = lt-ltb _ _ low in
-      rw half refl
-
   -- the place so many bytes behind one
   abbrev moves_to : ℕ → ℕ → Means Lvalue
   moves_to n v = moved sc v (pos n) >>= λ q. gives (Led q)
 
-  member_leads : (h : Head) (p : _) (a : Typed) (k m : ℕ) (row : Member) → target_of (type_of a) ≡ Some (ctype.Struct k) → slice_get (members_of sc.defs k) m ≡ Some row → row.at < 2 ^ 31 → IsSettled sc s
+  member_leads : (h : Head) (p : _) (a : Typed) (k m : ℕ) (row : Member) → target_of (type_of a) ≡ Some (ctype.Struct k) → slice_get (members_of sc.defs k) m ≡ Some row → IsOffset sc s row.at → IsSettled sc s
       → Roomy sc s cell own names out raw are Good spent a → Come a → Leads (Arrow' h p a m)
   member_leads h p a k m row to get low' settled ra ca rest under o items i none low r f go bad =
       let base = ra (length o) i r in
-      ca (Num (signed row.at) (Num (pos 1) (Word (codes "ptradd") rest))) under o items i none low r
-      (subst (λ (c : Code). Starts under c items) (ap (λ (c : Code). (value_code names sc.defs a ⋯ c) ⋯ rest) (ap further_pieces offset ∙ further_code row.at low')
-      ∙ follows_assoc (value_code names sc.defs a) (Num (signed row.at) (Num (pos 1) (Word (codes "ptradd") Stop))) rest) f)
-      (λ v hv ga after' f'. near_reaches sc s cell own names out raw spaces settled are Good spent v row.at rest under o after' hv low' none base.0 f'
+      ca (further_pieces row.at ⋯ rest) under o items i none low r
+      (subst (λ (c : Code). Starts under c items) (ap (λ (n : ℕ). (value_code names sc.defs a ⋯ further_pieces n) ⋯ rest) offset ∙ follows_assoc (value_code names sc.defs a) (further_pieces row.at) rest) f)
+      (λ v hv ga after' f'. further_reaches sc s cell own names out raw settled are Good spent v row.at rest under o after' hv low' none base.0 f'
       (λ w hw gw. go w hw (behind v (Ok (Led w)) ga (after t (moved sc v (pos row.at)) (λ q. gives (Led q)) w (Ok (Led w)) gw (given t (Led w)))))
       (λ x e told gw. bad x e told (behind v (Err x) ga (stops t (moved sc v (pos row.at)) (λ q. gives (Led q)) x gw))))
       (λ x e told ga. bad x e told (stops t (value_of sc a) (λ v. moves_to (source.offset_of sc.defs (target_number (target_of (type_of a))) m) v) x ga))
@@ -325,15 +320,14 @@ module _ (sc : Scene) (s : StoreState) (cell : ℕ) (own : DictId) (names : List
           after t (value_of sc a) (λ v. moves_to (source.offset_of sc.defs (target_number (target_of (type_of a))) m) v) v r ga
           (subst (λ (n : ℕ). Takes t (moves_to n v) r) (sym means_offset) g)
 
-  member_there_leads : (h : Head) (p : _) (a : Typed) (t' : CType) (k m : ℕ) (row : Member) → type_of a ≡ ctype.Struct k → slice_get (members_of sc.defs k) m ≡ Some row → row.at < 2 ^ 31 → IsSettled sc s
+  member_there_leads : (h : Head) (p : _) (a : Typed) (t' : CType) (k m : ℕ) (row : Member) → type_of a ≡ ctype.Struct k → slice_get (members_of sc.defs k) m ≡ Some row → IsOffset sc s row.at → IsSettled sc s
       → IsPointed sc s names a t' → Leads a → Leads (Dot' h p a m)
   member_there_leads h p a t' k m row is get low' settled at la rest under o items i none low r f go bad =
       let base = pointed_room sc s names a t' at (length o) i r in
-      la (Num (signed row.at) (Num (pos 1) (Word (codes "ptradd") rest))) under o items i none low r
+      la (further_pieces row.at ⋯ rest) under o items i none low r
       (subst (λ (c : Code). Starts under c items) (ap (λ (z : Standing). (place_code names sc.defs a ⋯ place_further z (offset_of sc.defs (type_of a) m)) ⋯ rest) (pointed_stands a t' at)
-      ∙ ap (λ (c : Code). (place_code names sc.defs a ⋯ c) ⋯ rest) (ap further_pieces offset ∙ further_code row.at low')
-      ∙ follows_assoc (place_code names sc.defs a) (Num (signed row.at) (Num (pos 1) (Word (codes "ptradd") Stop))) rest) f)
-      (λ v hv ga after' f'. near_reaches sc s cell own names out raw spaces settled are Good spent v row.at rest under o after' hv low' none base.0 f'
+      ∙ ap (λ (n : ℕ). (place_code names sc.defs a ⋯ further_pieces n) ⋯ rest) offset ∙ follows_assoc (place_code names sc.defs a) (further_pieces row.at) rest) f)
+      (λ v hv ga after' f'. further_reaches sc s cell own names out raw settled are Good spent v row.at rest under o after' hv low' none base.0 f'
       (λ w hw gw. go w hw (behind v (Ok (Led w)) ga (after t (moved sc v (pos row.at)) (λ q. gives (Led q)) w (Ok (Led w)) gw (given t (Led w)))))
       (λ x e told gw. bad x e told (behind v (Err x) ga (stops t (moved sc v (pos row.at)) (λ q. gives (Led q)) x gw))))
       (λ x e told ga. bad x e told (stops t (place_of sc a) (λ z. member_at sc (source.offset_of sc.defs (struct_number (type_of a)) m) z) x ga))
@@ -349,7 +343,7 @@ module _ (sc : Scene) (s : StoreState) (cell : ℕ) (own : DictId) (names : List
           after t (place_of sc a) (λ z. member_at sc (source.offset_of sc.defs (struct_number (type_of a)) m) z) (Led v) r ga
           (subst (λ (n : ℕ). Takes t (moves_to n v) r) (sym means_offset) g)
 
-  item_leads : (h : Head) (p : _) (a : Typed) (q : _) (b : Typed) → OnPointers sc.defs Add (type_of a) (type_of b) → IsSettled sc s → Roomy sc s cell own names out raw are Good spent a → Come a → Come b → Leads (Index' h p a q b)
+  item_leads : (h : Head) (p : _) (a : Typed) (q : _) (b : Typed) → OnPointers sc s Add (type_of a) (type_of b) → IsSettled sc s → Roomy sc s cell own names out raw are Good spent a → Come a → Come b → Leads (Index' h p a q b)
   item_leads h p a q b moves settled ra ca cb rest under o items i none low r f go bad =
       operands_come sc s cell own names out raw are Good spent Add a b (λ x y. combined sc Add (type_of a) (type_of b) x y >>= λ p. gives (Led p)) Led
       (λ x y v g. after t (combined sc Add (type_of a) (type_of b) x y) (λ p. gives (Led p)) v (Ok (Led v)) g (given t (Led v)))

@@ -6,12 +6,15 @@ mod Operating
 mod Values
 mod Places
 mod Reading
-mod Texts
 mod Taking
 mod Evaluating
 mod Objects
 mod Pointing
+mod Far
+mod Moving
 mod Comparing
 mod Pointers
 mod Evaluated
+mod Kept
+mod Texts
 mod Examples

@@ -6,6 +6,14 @@ pub exch_is : operator_number (codes "exch") ≡ Some 0
 unfolding operator_number
 exch_is = refl
 
+pub dup_is : operator_number (codes "dup") ≡ Some 1
+unfolding operator_number
+dup_is = refl
+
+pub index_is : operator_number (codes "index") ≡ Some 4
+unfolding operator_number
+index_is = refl
+
 pub pop_is : operator_number (codes "pop") ≡ Some 2
 unfolding operator_number
 pop_is = refl

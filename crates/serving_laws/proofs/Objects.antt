@@ -1,5 +1,5 @@
--- What is found at an address: by the bytes of memory alone, no further from the object's start than the address itself; and a type's leaves are read without units.
-use Rattle.std.proofs.Common.{◌≡◌, refl, ap, ◌∙◌, ℕ, zero, suc, ◌-◌, ◌*◌, ◌/◌, ◌%◌, ◌≤◌, nat_lt, Bool, true, false, if◌then◌else◌, Option, Some, None, Ok, Err, List, [], ◌∷◌, codes, arith}
+-- What is found at an address: by the bytes of memory alone, within the object, and no further from its start than the address itself; and a type's leaves are read without units.
+use Rattle.std.proofs.Common.{◌≡◌, refl, ap, ◌∙◌, ℕ, zero, suc, ◌+◌, ◌-◌, ◌*◌, ◌/◌, ◌%◌, ◌≤◌, nat_lt, nat_le, leb-true, Bool, true, false, if◌then◌else◌, Option, Some, None, Ok, Err, List, [], ◌∷◌, codes, arith}
 use Rattle.std.specs.Prelude.{bytes_eq, ◌&&◌}
 use Rattle.ldb_words.specs.Word.{sum_of, difference_of}
 use Rattle.ldb_words.specs.declared.kinds.Kind.{Kind}
@@ -129,11 +129,11 @@ module _ (row : TargetRow) (s : StoreState) (b b' : Bytes) (same : (at : ℕ) (k
           ap (λ (z : Walked (Option Frame)). z >>= λ f. elim f [ None ↦ Ok None | Some f ↦ found_outward row s b address (MOST_FRAMES - 1) 0 f ]) (first_same context)
           ∙ behind_same (first_frame row s b' context) _ _ behind
 
--- ---- no further from an object's start than the address
+-- ---- no further from an object's start than the address, and within the object
 
 abbrev pub LowIn : ℕ → Option Found → Type 0
 LowIn p None = Unit {0}
-LowIn p (Some o) = o.at ≤ p
+LowIn p (Some o) = (o.at ≤ p) × (o.at ≤ o.size)
 
 abbrev pub Low : ℕ → Walked (Option Found) → Type 0
 Low p (Ok o) = LowIn p o
@@ -150,14 +150,21 @@ module _ (p : ℕ) where
 
   module _ (s : StoreState) where
     object_low : (x : DictId) (base : ℕ) → Low p (object_at s x p base)
-    object_low x base = low_on (dict_at s x (codes "type")) _ (λ t. low_on (number_at s t (codes "size")) _ (λ size. by t size (belongs base size p)))
+    object_low x base = low_on (dict_at s x (codes "type")) _ (λ t. low_on (number_at s t (codes "size")) _ (λ size. by t size (belongs base size p) refl))
       where
-        by : (t : DictId) (size : ℕ) (b : Bool) → Low p (elim b [
+        second : (a b : Bool) → (a && b) ≡ true → b ≡ true
+        second true b e = e
+        second false b e = cc
+
+        within : (size : ℕ) → belongs base size p ≡ true → p - base ≤ size
+        within size e = let last = leb-true p (base + size) (second (nat_le base p) (nat_le p (base + size)) e) in omega (arith, last)
+
+        by : (t : DictId) (size : ℕ) (b : Bool) → belongs base size p ≡ b → Low p (elim b [
           | false ↦ Ok None
           | true ↦ string_at s x (codes "label") >>= λ label. Ok (Some (record { label = label; ctype = t; activation = None; base = base; size = size; at = p - base; literal = false }))
         ])
-        by t size false = tt
-        by t size true = low_on (string_at s x (codes "label")) _ (λ label. omega arith)
+        by t size false e = tt
+        by t size true e = low_on (string_at s x (codes "label")) _ (λ label. (omega arith, within size e))
 
     symbol_low : (base : Option ℕ) (x : DictId) (code : List PsObj) → Low p (found_symbol s base p x code)
     symbol_low base x code = low_on (address_of s base (form_of s code)) (object_or_none s x p) by

@@ -225,7 +225,7 @@ module _ (s : StoreState) (ds : List DictId) (are : AreOperators s ds) (d : Dial
   unfolding act
   ishr_acts c = refl
 
-  ushr_acts : (c : PsCore) → act 21 d c ≡ with_state d (on_two word_op.ShiftRight c)
+  pub ushr_acts : (c : PsCore) → act 21 d c ≡ with_state d (on_two word_op.ShiftRight c)
   unfolding act
   ushr_acts c = refl
 
@@ -259,7 +259,7 @@ module _ (s : StoreState) (ds : List DictId) (are : AreOperators s ds) (d : Dial
   exchanged x y rest o items f go = manual_reaches s ds are d Good spent under (codes "exch") 0 rest (y ∷ x ∷ o) (x ∷ y ∷ o) items exch_is (λ after. refl) f go
 
   -- bits
-  bits_reach : (name : List ℕ) (p : ℕ) (z : ℤ) (v : ℕ) (rest : Code) (o o' : List PsObj) (items : List Item) → operator_number name ≡ Some p
+  pub bits_reach : (name : List ℕ) (p : ℕ) (z : ℤ) (v : ℕ) (rest : Code) (o o' : List PsObj) (items : List Item) → operator_number name ≡ Some p
       → ((after : List Item) → numbered p (core s ds o' after) ≡ Ok (core s ds (Int z ∷ o) after, None)) → z ≡ signed v → At (Word name rest) items → Behind rest (integer v ∷ o) → Reached o' items
   bits_reach name p z v rest o o' items e does same f go =
       manual_reaches s ds are d Good spent under name p rest o' (Int z ∷ o) items e does f (subst (λ (z : ℤ). Behind rest (Int z ∷ o)) (sym same) go)

@@ -1,20 +1,13 @@
 -- Pointers as operands: sums with integers, and what is read where one leads.
-use Rattle.std.proofs.Common.{◌≡◌, refl, sym, ap, subst, ◌∙◌, ℕ, ℤ, zero, suc, ◌+◌, ◌^◌, ◌<◌, ◌≤◌, nat_le, nat_lt, true, false, Bool, Option, Some, None, Result, Ok, Err, List, [], ◌∷◌, length, codes, pos, negsuc, lt-ltb, le-leb, arith}
-use Rattle.std.specs.Prelude.{◌*ℤ◌, neg_ℤ}
-use Rattle.std.proofs.Math.IntN.{*ℤ_comm, *ℤ-zero, zero-*ℤ}
-use Rattle.std.proofs.Math.Nat.{mul_comm}
-use Rattle.ldb_words.specs.Word.{signed}
+use Rattle.std.proofs.Common.{◌≡◌, refl, sym, ap, subst, ◌∙◌, ℕ, ◌+◌, ◌^◌, ◌<◌, ◌≤◌, true, false, Bool, Option, Some, None, Result, Ok, Err, List, [], ◌∷◌, length, codes, pos, arith}
 use Rattle.ldb_words.specs.declared.kinds.Kind.{Kind}
 use Rattle.c_tree.specs.declared.types.CType.{CType}
-use Rattle.c_tree.specs.declared.types.StructDef.{StructDef}
 use Rattle.c_tree.specs.declared.typed.BinaryOp.{BinaryOp}
 use Rattle.c_tree.specs.declared.typed.BinaryOp.TheVariants.{Less, Greater, LessEqual, GreaterEqual, Add, Subtract}
-use Rattle.c_tree.specs.Types.{target_of, is_unsigned, kind_of}
+use Rattle.c_tree.specs.Types.{target_of, kind_of}
 use Rattle.c_tree.specs.Layout.{size_of}
 use Rattle.c_judge.specs.declared.symbol.Symbol.{Symbol}
-use Rattle.c_operators.specs.Arithmetic.{number_of}
 use Rattle.ps_store.specs.declared.object.PsObj.{PsObj}
-use Rattle.ps_store.specs.declared.object.PsObj.TheVariants.{Int}
 use Rattle.ps_store.specs.declared.object.DictId.{DictId}
 use Rattle.ps_store.specs.StoreState.{StoreState}
 use Rattle.ps_step.specs.declared.fault.PsError.TheVariants.{RangeCheck}
@@ -30,41 +23,20 @@ use Rattle.frame_bytes.specs.declared.frame.Space.TheVariants.{Memory}
 use Rattle.frame_bytes.specs.Bytes.{fetched, fetched_at}
 use Rattle.dialect_model.specs.Dial.{Dial}
 use Rattle.dialect_model.specs.TableUse.{TableUse, Trouble, Kind as Raised, gives, ◌>>=◌}
-use Rattle.c_bytes.specs.Lvalues.{Scene, Cause, Means, Pointed, bytes_with, load, live_at, fetched_from, or_range, leaf_of, moved}
+use Rattle.c_bytes.specs.Lvalues.{Scene, Cause, Means, Pointed, bytes_with, load, live_at, fetched_from, or_range, leaf_of}
 use Rattle.c_bytes.specs.Operators.{converted}
 use Rattle.ps_emit.specs.Terms.{◌⋯◌}
-use Rattle.expr_serve.specs.Types.{bytes_of}
-use Rattle.expr_serve.specs.Codes.{on_pointer, by_items, signed_items}
+use Rattle.expr_serve.specs.Codes.{on_pointer}
 use Rattle.serving_laws.specs.Left.{AreOperators}
 use Rattle.serving_laws.specs.Named.{dial_in, HasSpaces, dictionaries_in, use_in}
 use Rattle.serving_laws.specs.Evaluated.{IsSettled, IsOrder, less, greater, at_most, at_least, OnPointers, on, on_by, back, ordered, apart}
-use Rattle.serving_laws.proofs.Stepping.{number_reaches}
 use Rattle.serving_laws.proofs.Operating.{exchanged}
 use Rattle.serving_laws.proofs.Reading.{IsFetched, in_memory, name_reaches, fetch_reaches}
 use Rattle.serving_laws.proofs.Taking.{Takes, still, given, after, stops}
 use Rattle.serving_laws.proofs.Evaluating.{At, Reached, Behind, Goes, Breaks, Two}
-use Rattle.serving_laws.proofs.Pointing.{sum_reaches, leaf_reaches}
+use Rattle.serving_laws.proofs.Pointing.{leaf_reaches}
+use Rattle.serving_laws.proofs.Moving.{size_same, counted_reach}
 use Rattle.serving_laws.proofs.Comparing.{ordered_reach, difference_reaches}
-
--- a number of bytes less than 2^31
-near_by : (n : ℕ) → n < 2 ^ 31 → signed n *ℤ pos 1 ≡ pos n
-near_by n h =
-    let half : nat_lt n 2147483648 ≡ true = lt-ltb _ _ h in
-    rw half (ap pos (omega arith))
-
-size_same : (defs : List StructDef) (k : CType) → size_of defs k ≤ 1048576 → bytes_of defs k ≡ size_of defs k
-size_same defs k h =
-    let low : nat_le (size_of defs k) 1048576 ≡ true = le-leb _ _ h in
-    rw low refl
-
-back_product : (a : ℤ) (b : ℕ) → a *ℤ neg_ℤ (pos b) ≡ pos b *ℤ neg_ℤ a
-back_product a zero = *ℤ-zero a ∙ sym (zero-*ℤ (neg_ℤ a))
-back_product (pos zero) (suc n) = zero-*ℤ (negsuc n) ∙ sym (*ℤ-zero (pos (suc n)))
-back_product (pos (suc m)) (suc n) = ap (λ (z : ℕ). neg_ℤ (pos z)) (mul_comm (suc m) (suc n))
-back_product (negsuc m) (suc n) = ap pos (mul_comm (suc m) (suc n))
-
-number_signed : (t : CType) (n : ℕ) → is_unsigned t ≡ false → number_of t n ≡ signed n
-number_signed t n e = rw e refl
 
 module _ (sc : Scene) (s : StoreState) (cell : ℕ) (own : DictId) (names : List Symbol) (out : List ℕ) (raw : Bool) (spaces : HasSpaces s) (settled : IsSettled sc s) (are : AreOperators s (dictionaries_in s own))
     (Good : Answer → ℕ → Dial → PsCore → Type 0) (spent : (m : ℕ) (d' : Dial) (c' : PsCore) → Good (Err Spent) m d' c') where
@@ -92,34 +64,7 @@ module _ (sc : Scene) (s : StoreState) (cell : ℕ) (own : DictId) (names : List
   abbrev Break : {A : Type 0} → Means A → Type 0
   Break m = Breaks sc s cell own names out raw are Good spent m
 
-  -- ---- a move by so many bytes
-
-  pub near_reaches : (v n : ℕ) (rest : Code) (under : List Item) (o : List PsObj) (items : List Item) → v < 2 ^ 32 → n < 2 ^ 31 → under_stopped under ≡ None → length o + 5 ≤ 100000
-      → Starts under (Num (signed n) (Num (pos 1) (Word (codes "ptradd") rest))) items → Go (moved sc v (pos n)) under rest o → Break (moved sc v (pos n)) → Reach (integer v ∷ o) items
-  near_reaches v n rest under o items hv hn none few f go bad =
-      number_reaches s ds are d Good spent under (signed n) (Num (pos 1) (Word (codes "ptradd") rest)) (integer v ∷ o) items (omega (arith, few)) f
-      (λ after f. number_reaches s ds are d Good spent under (pos 1) (Word (codes "ptradd") rest) (Int (signed n) ∷ integer v ∷ o) after (omega (arith, few)) f
-      (λ after f. sum_reaches sc s cell own out raw settled are Good spent under none v (signed n) (pos 1) (pos n) rest o after hv (near_by n hn) f go bad))
-
-  -- ---- sums
-
-  -- by so many items of a size, forward or back
-  items_reach : (v n : ℕ) (size by : ℤ) (rest : Code) (under : List Item) (o : List PsObj) (items : List Item) → v < 2 ^ 32 → signed n *ℤ size ≡ by → under_stopped under ≡ None → length o + 5 ≤ 100000
-      → Starts under (Num size (Word (codes "ptradd") rest)) items → Go (moved sc v by) under rest o → Break (moved sc v by) → Reach (integer n ∷ integer v ∷ o) items
-  items_reach v n size by rest under o items hv same none few f go bad =
-      number_reaches s ds are d Good spent under size (Word (codes "ptradd") rest) (integer n ∷ integer v ∷ o) items (omega (arith, few)) f
-      (λ after f. sum_reaches sc s cell own out raw settled are Good spent under none v (signed n) size by rest o after hv same f go bad)
-
-  items_code : (is_back : Bool) (item k : CType) → is_unsigned k ≡ false → (rest : Code) → (by_items is_back (bytes_of sc.defs item) k ⋯ rest) ≡ (signed_items is_back (bytes_of sc.defs item) ⋯ rest)
-  items_code is_back item k e rest = rw e refl
-
-  forward_is : (item k : CType) (n : ℕ) → size_of sc.defs item ≤ 1048576 → is_unsigned k ≡ false → signed n *ℤ pos (bytes_of sc.defs item) ≡ pos (size_of sc.defs item) *ℤ number_of k n
-  forward_is item k n h e = *ℤ_comm (signed n) (pos (bytes_of sc.defs item)) ∙ ap (λ (z : ℕ). pos z *ℤ signed n) (size_same sc.defs item h) ∙ ap (λ (z : ℤ). pos (size_of sc.defs item) *ℤ z) (sym (number_signed k n e))
-
-  back_is : (item k : CType) (n : ℕ) → size_of sc.defs item ≤ 1048576 → is_unsigned k ≡ false → signed n *ℤ neg_ℤ (pos (bytes_of sc.defs item)) ≡ pos (size_of sc.defs item) *ℤ neg_ℤ (number_of k n)
-  back_is item k n h e =
-      back_product (signed n) (bytes_of sc.defs item) ∙ ap (λ (z : ℕ). pos z *ℤ neg_ℤ (signed n)) (size_same sc.defs item h)
-      ∙ ap (λ (z : ℤ). pos (size_of sc.defs item) *ℤ neg_ℤ z) (sym (number_signed k n e))
+  -- ---- two operands
 
   abbrev Twice : BinaryOp → CType → CType → Option CType → Option CType → Type 0
   Twice op k l a b = Two sc s cell own names out raw are Good spent op k l a b
@@ -134,23 +79,20 @@ module _ (sc : Scene) (s : StoreState) (cell : ℕ) (own : DictId) (names : List
   ordered_come _ k l a b at_least x y rest under o items hx hy none room few f go bad =
       ordered_reach sc s cell own names out raw settled are Good spent under none GreaterEqual at_least (size_of sc.defs a) x y rest o items hx hy room few f go bad
 
-  pub pointers_come : (op : BinaryOp) (k l : CType) → OnPointers sc.defs op k l → Twice op k l (target_of k) (target_of l)
-  pointers_come _ _ _ (on k l item e e' plain low) =
+  pub pointers_come : (op : BinaryOp) (k l : CType) → OnPointers sc s op k l → Twice op k l (target_of k) (target_of l)
+  pointers_come _ _ _ (on k l item e e' count low) =
       subst (λ (z : Option CType). Twice Add k l z (target_of l)) (sym e) (subst (λ (z : Option CType). Twice Add k l (Some item) z) (sym e')
       (λ x y rest under o items hx hy none room few f go bad.
-      items_reach x y (pos (bytes_of sc.defs item)) (pos (size_of sc.defs item) *ℤ number_of l y) rest under o items hx (forward_is item l y low plain) none few
-      (subst (λ (c : Code). Starts under c items) (items_code false item l plain rest) f) go bad))
-  pointers_come _ _ _ (on_by k l item e e' plain low) =
+      counted_reach sc s cell own names out raw settled are Good spent false item l x y rest under o items low count hx hy none room few f go bad))
+  pointers_come _ _ _ (on_by k l item e e' count low) =
       subst (λ (z : Option CType). Twice Add k l z (target_of l)) (sym e) (subst (λ (z : Option CType). Twice Add k l None z) (sym e')
       (λ x y rest under o items hx hy none room few f go bad.
       exchanged s ds are d Good spent under none (integer x) (integer y) (on_pointer sc.defs Add item k ⋯ rest) o items f
-      (λ after f. items_reach y x (pos (bytes_of sc.defs item)) (pos (size_of sc.defs item) *ℤ number_of k x) rest under o after hy (forward_is item k x low plain) none few
-      (subst (λ (c : Code). Starts under c after) (items_code false item k plain rest) f) go bad)))
-  pointers_come _ _ _ (back k l item e e' plain low) =
+      (λ after f. counted_reach sc s cell own names out raw settled are Good spent false item k y x rest under o after low count hy hx none room few f go bad)))
+  pointers_come _ _ _ (back k l item e e' count low) =
       subst (λ (z : Option CType). Twice Subtract k l z (target_of l)) (sym e) (subst (λ (z : Option CType). Twice Subtract k l (Some item) z) (sym e')
       (λ x y rest under o items hx hy none room few f go bad.
-      items_reach x y (neg_ℤ (pos (bytes_of sc.defs item))) (pos (size_of sc.defs item) *ℤ neg_ℤ (number_of l y)) rest under o items hx (back_is item l y low plain) none few
-      (subst (λ (c : Code). Starts under c items) (items_code true item l plain rest) f) go bad))
+      counted_reach sc s cell own names out raw settled are Good spent true item l x y rest under o items low count hx hy none room few f go bad))
   pointers_come _ _ _ (ordered op k l a b is e e') =
       subst (λ (z : Option CType). Twice op k l z (target_of l)) (sym e) (subst (λ (z : Option CType). Twice op k l (Some a) z) (sym e')
       (λ x y rest under o items hx hy none room few f go bad.

@@ -123,11 +123,11 @@ module _ (sc : Scene) (s : StoreState) (cell : ℕ) (own : DictId) (out : List �
 
   -- ---- objects
 
-  abbrev object : ℕ → Walked (Option Found)
+  abbrev pub object : ℕ → Walked (Option Found)
   object zero = Ok None
   object (suc n) = found_at sc.target.row s (memory_bytes sc.target) sc.target.context (suc n)
 
-  object_same : (n : ℕ) → found_at sc.target.row s (bytes_with sc 0) sc.target.context n ≡ found_at sc.target.row s (memory_bytes sc.target) sc.target.context n
+  pub object_same : (n : ℕ) → found_at sc.target.row s (bytes_with sc 0) sc.target.context n ≡ found_at sc.target.row s (memory_bytes sc.target) sc.target.context n
   unfolding fetched
   object_same n = found_same sc.target.row s (bytes_with sc 0) (memory_bytes sc.target) (λ at k. refl) sc.target.context n
 
@@ -163,7 +163,7 @@ module _ (sc : Scene) (s : StoreState) (cell : ℕ) (own : DictId) (out : List �
   never_seen : (f : PsError) (o : Option Found) → lacking f ≡ Ok o → ⊥
   never_seen f o e = cc
 
-  seen_low : (p : ℕ) (o : Option Found) → seen p ≡ Ok o → LowIn p o
+  pub seen_low : (p : ℕ) (o : Option Found) → seen p ≡ Ok o → LowIn p o
   seen_low p o e = by p o (object p) (low p) e
     where
       low : (p : ℕ) → Low p (object p)
@@ -248,7 +248,7 @@ module _ (sc : Scene) (s : StoreState) (cell : ℕ) (own : DictId) (out : List �
 
   offset_low : (p : ℕ) (found : Option Found) → p < 2 ^ 32 → LowIn p found → offset_of found < 2 ^ 32
   offset_low p None h low = lit< tt
-  offset_low p (Some o) h low = omega (arith, h, low)
+  offset_low p (Some o) h low = let at = low.0 in omega (arith, h, at)
 
   pub leaf_comes : (p : ℕ) (k : Kind) → p < 2 ^ 32 → Comes (live_at sc (Pointed p) (leaf_of k ∷ [])) (seen p >>= λ found. need_live s found (OfKind k))
   leaf_comes p k h =
@@ -324,15 +324,23 @@ module _ (sc : Scene) (s : StoreState) (cell : ℕ) (own : DictId) (out : List �
           broken : (v : Result _ PsError) (e : PsError) → Comes m v → v ≡ Err e → Broken m e
           broken v e means is = subst (λ (z : Result _ PsError). Comes m z) is means
 
+      -- a pointer is moved, by what that means
+      pub summed_reaches : {B : Type 0} (p : ℕ) (n size by : ℤ) (rest : Code) (o : List PsObj) (items : List Item) → p < 2 ^ 32 → n *ℤ size ≡ by → Frames s under items (Word (codes "ptradd") rest ∷ [])
+          → (m : Means B) (v : Result B PsError) → Comes m v → ((e : PsError) → sum_seen (seen p) by ≡ Err e → v ≡ Err e)
+          → ((w : ℕ) → w < 2 ^ 32 → sum_seen (seen p) by ≡ Ok w → Then rest (integer w ∷ o)) → ((x : Trouble Cause) (e : PsError) → told_as x ≡ Some e → Takes t m (Err x) → Fail e)
+          → Reach (Int size ∷ Int n ∷ integer p ∷ o) items
+      summed_reaches p n size by rest o items h same f m v means fails go bad =
+          looked_reaches (codes "ptradd") 23 (seen p >>= λ found. pointer_sum found n size) (λ v. integer v ∷ o) rest (Int size ∷ Int n ∷ integer p ∷ o) items ptradd_is (λ c. refl)
+          (λ after. sum_acts p n size o after h) f m v means (λ e is. fails e (sym (sum_same (seen p) n size by same) ∙ is))
+          (λ w is. let is' = sym (sum_same (seen p) n size by same) ∙ is in go w (sum_small (seen p) by w is') is') bad
+
       -- a pointer is moved
       pub sum_reaches : (p : ℕ) (n size by : ℤ) (rest : Code) (o : List PsObj) (items : List Item) → p < 2 ^ 32 → n *ℤ size ≡ by → Frames s under items (Word (codes "ptradd") rest ∷ [])
           → ((v : ℕ) → v < 2 ^ 32 → Takes t (moved sc p by) (Ok v) → Then rest (integer v ∷ o)) → ((x : Trouble Cause) (e : PsError) → told_as x ≡ Some e → Takes t (moved sc p by) (Err x) → Fail e)
           → Reach (Int size ∷ Int n ∷ integer p ∷ o) items
       sum_reaches p n size by rest o items h same f go bad =
-          looked_reaches (codes "ptradd") 23 (seen p >>= λ found. pointer_sum found n size) (λ v. integer v ∷ o) rest (Int size ∷ Int n ∷ integer p ∷ o) items ptradd_is (λ c. refl)
-          (λ after. sum_acts p n size o after h) f (moved sc p by) (sum_seen (seen p) by) (moved_comes p by) (λ e is. sym (sum_same (seen p) n size by same) ∙ is)
-          (λ v is. let means = sym (sum_same (seen p) n size by same) ∙ is in
-          go v (sum_small (seen p) by v means) (subst (λ (z : Result ℕ PsError). Comes (moved sc p by) z) means (moved_comes p by))) bad
+          summed_reaches p n size by rest o items h same f (moved sc p by) (sum_seen (seen p) by) (moved_comes p by) (λ e is. is)
+          (λ v low means. go v low (subst (λ (z : Result ℕ PsError). Comes (moved sc p by) z) means (moved_comes p by))) bad
 
       -- a pointer becomes the place of a leaf
       pub leaf_reaches : (p : ℕ) (u : StringId) (name : List ℕ) (k : Kind) (rest : Code) (o : List PsObj) (items : List Item) → p < 2 ^ 32 → bytes_of s u ≡ name → kind_named name ≡ Ok k

@@ -1,9 +1,9 @@
 -- Expressions over constants, sizes and places, whose operators, conversions and conditions nest in any way, and what their pieces come to.
-use Rattle.std.specs.Prelude.{◌≡◌, ◌≢◌, ℕ, ◌<◌, ◌≤◌, ◌^◌, true, false, List, [], ◌∷◌, slice_get, Option, Some, None, Ok, Err}
+use Rattle.std.specs.Prelude.{◌≡◌, ◌≢◌, ◌⊎◌, ℕ, ◌<◌, ◌≤◌, ◌^◌, true, false, List, [], ◌∷◌, slice_get, Option, Some, None, Ok, Err}
+use Rattle.ldb_words.specs.Word.{sum_of}
 use Rattle.c_tree.specs.declared.types.CType.{CType}
 use Rattle.c_tree.specs.declared.types.CType.TheVariants.{Struct}
 use Rattle.c_tree.specs.declared.types.Member.{Member}
-use Rattle.c_tree.specs.declared.types.StructDef.{StructDef}
 use Rattle.c_tree.specs.declared.typed.BinaryOp.{BinaryOp}
 use Rattle.c_tree.specs.declared.typed.BinaryOp.TheVariants.{Less, Greater, LessEqual, GreaterEqual, Add, Subtract}
 use Rattle.c_tree.specs.declared.typed.UnaryOp.{UnaryOp}
@@ -27,15 +27,34 @@ use Rattle.ps_words.specs.Operators.{integer}
 use Rattle.dialect_model.specs.Dial.{Dial}
 use Rattle.dialect_model.specs.Operating.{Operates}
 use Rattle.dialect_model.specs.TableUse.{TableUse, Trouble, Refused, Kind, Spent as StepsSpent, Wanting}
+use Rattle.table_model.specs.declared.lack.Lack.{Lack}
 use Rattle.table_model.specs.declared.lack.Lack.TheVariants.{Unforced}
+use Rattle.table_model.specs.declared.found.Found.{Found}
+use Rattle.table_model.specs.Reading.{Walked}
 use Rattle.table_model.specs.Objects.{found_at}
 use Rattle.c_bytes.specs.Lvalues.{Cause, Reason, Disturbed, IllTyped, Scene, bytes_with}
 use Rattle.serving_laws.specs.Plain.{AreTaken}
 use Rattle.serving_laws.specs.Named.{IsScalar, IsRead, dictionaries_in, use_in, ComesTo}
 
+-- the object at an address
+abbrev pub object_there : Scene → StoreState → (address : ℕ) → Walked (Option Found)
+object_there sc s p = found_at sc.target.row s (bytes_with sc 0) sc.target.context p
+
 -- No unit of the table has to be run first where the object at an address is looked up.
 abbrev pub IsSettled : Scene → StoreState → Type 0
-IsSettled sc s = (p u : ℕ) → found_at sc.target.row s (bytes_with sc 0) sc.target.context p ≡ Err (Unforced u) → ⊥
+IsSettled sc s = (p u : ℕ) → object_there sc s p ≡ Err (Unforced u) → ⊥
+
+-- Each object has less than 2^31 bytes, and at none of its addresses the table lacks what a look-up there uses.
+pub record HasSmallObjects (sc : Scene) (s : StoreState) : Type 0 where
+  pub small : (p : ℕ) (o : Found) → object_there sc s p ≡ Ok (Some o) → o.size < 2 ^ 31
+  pub told : (p i : ℕ) (o : Found) (l : Lack) → object_there sc s p ≡ Ok (Some o) → i ≤ o.size → object_there sc s (sum_of o.base i) ≡ Err l → ⊥
+
+-- The types of counts, and the offsets of members. Those of 2^31 and more are taken in two moves, which lead out of each object.
+abbrev pub IsCount : Scene → StoreState → CType → Type 0
+IsCount sc s t = (is_unsigned t ≡ false) ⊎ HasSmallObjects sc s
+
+abbrev pub IsOffset : Scene → StoreState → ℕ → Type 0
+IsOffset sc s n = (n < 2 ^ 31) ⊎ ((n < 2 ^ 32) × HasSmallObjects sc s)
 
 -- the orders
 pub data IsOrder : BinaryOp → Type 0 where
@@ -44,14 +63,14 @@ pub data IsOrder : BinaryOp → Type 0 where
   at_most : IsOrder LessEqual
   at_least : IsOrder GreaterEqual
 
--- Operators that look for the object of a pointer, on operands of two types: an `int` or a `char` is added to a pointer or taken from it, two pointers are ordered, and one is
--- taken from another. The size of an item is one of the language.
-pub data OnPointers (defs : List StructDef) : BinaryOp → CType → CType → Type 0 where
-  on : (k l item : CType) → target_of k ≡ Some item → target_of l ≡ None → is_unsigned l ≡ false → size_of defs item ≤ 1048576 → OnPointers defs Add k l
-  on_by : (k l item : CType) → target_of k ≡ None → target_of l ≡ Some item → is_unsigned k ≡ false → size_of defs item ≤ 1048576 → OnPointers defs Add k l
-  back : (k l item : CType) → target_of k ≡ Some item → target_of l ≡ None → is_unsigned l ≡ false → size_of defs item ≤ 1048576 → OnPointers defs Subtract k l
-  ordered : (op : BinaryOp) (k l a b : CType) → IsOrder op → target_of k ≡ Some a → target_of l ≡ Some b → OnPointers defs op k l
-  apart : (k l a b : CType) → target_of k ≡ Some a → target_of l ≡ Some b → size_of defs a ≤ 1048576 → OnPointers defs Subtract k l
+-- Operators that look for the object of a pointer, on operands of two types: a count is added to a pointer or taken from it, two pointers are ordered, and one is taken from
+-- another. The size of an item is one of the language.
+pub data OnPointers (sc : Scene) (s : StoreState) : BinaryOp → CType → CType → Type 0 where
+  on : (k l item : CType) → target_of k ≡ Some item → target_of l ≡ None → IsCount sc s l → size_of sc.defs item ≤ 1048576 → OnPointers sc s Add k l
+  on_by : (k l item : CType) → target_of k ≡ None → target_of l ≡ Some item → IsCount sc s k → size_of sc.defs item ≤ 1048576 → OnPointers sc s Add k l
+  back : (k l item : CType) → target_of k ≡ Some item → target_of l ≡ None → IsCount sc s l → size_of sc.defs item ≤ 1048576 → OnPointers sc s Subtract k l
+  ordered : (op : BinaryOp) (k l a b : CType) → IsOrder op → target_of k ≡ Some a → target_of l ≡ Some b → OnPointers sc s op k l
+  apart : (k l a b : CType) → target_of k ≡ Some a → target_of l ≡ Some b → size_of sc.defs a ≤ 1048576 → OnPointers sc s Subtract k l
 
 mutual
   -- An expression that is evaluated: `i + 1`, `s.x * 2`, `a == p ? 0 : -c`, where i, s, a, p and c are names whose places their procedures tell; and where no
@@ -79,18 +98,18 @@ mutual
     pointed_address : (h : Head) (p : _) (e : Typed) (t : CType) → IsPointed sc s names e t → IsEvaluated sc s names (Address' h p e)
     -- a scalar behind a pointer, and operators on pointers, where no unit has to be run first
     pointed_scalar : (e : Typed) (t : CType) → IsPointed sc s names e t → IsScalar t → IsSettled sc s → IsEvaluated sc s names e
-    on_pointers : (h : Head) (p : _) (a : Typed) (op : BinaryOp) (q : _) (b : Typed) → OnPointers sc.defs op (type_of a) (type_of b) → IsSettled sc s → IsEvaluated sc s names a → IsEvaluated sc s names b
+    on_pointers : (h : Head) (p : _) (a : Typed) (op : BinaryOp) (q : _) (b : Typed) → OnPointers sc s op (type_of a) (type_of b) → IsSettled sc s → IsEvaluated sc s names a → IsEvaluated sc s names b
         → IsEvaluated sc s names (Binary' h p a op q b)
 
   -- an lvalue where a pointer leads, and the type of what is read there
   pub data IsPointed (sc : Scene) (s : StoreState) (names : List Symbol) : Typed → CType → Type 0 where
     followed : (h : Head) (p : _) (a : Typed) → IsEvaluated sc s names a → IsPointed sc s names (Follow' h p a) h.ctype
-    -- an item, and a member less than 2^31 bytes from where the pointer leads
-    item : (h : Head) (p : _) (a : Typed) (q : _) (b : Typed) → OnPointers sc.defs Add (type_of a) (type_of b) → IsSettled sc s → IsEvaluated sc s names a → IsEvaluated sc s names b
+    -- an item, and a member
+    item : (h : Head) (p : _) (a : Typed) (q : _) (b : Typed) → OnPointers sc s Add (type_of a) (type_of b) → IsSettled sc s → IsEvaluated sc s names a → IsEvaluated sc s names b
         → IsPointed sc s names (Index' h p a q b) h.ctype
-    member : (h : Head) (p : _) (a : Typed) (k m : ℕ) (row : Member) → target_of (type_of a) ≡ Some (Struct k) → slice_get (members_of sc.defs k) m ≡ Some row → row.at < 2 ^ 31 → IsSettled sc s
+    member : (h : Head) (p : _) (a : Typed) (k m : ℕ) (row : Member) → target_of (type_of a) ≡ Some (Struct k) → slice_get (members_of sc.defs k) m ≡ Some row → IsOffset sc s row.at → IsSettled sc s
         → IsEvaluated sc s names a → IsPointed sc s names (Arrow' h p a m) h.ctype
-    member_there : (h : Head) (p : _) (a : Typed) (t : CType) (k m : ℕ) (row : Member) → type_of a ≡ Struct k → slice_get (members_of sc.defs k) m ≡ Some row → row.at < 2 ^ 31 → IsSettled sc s
+    member_there : (h : Head) (p : _) (a : Typed) (t : CType) (k m : ℕ) (row : Member) → type_of a ≡ Struct k → slice_get (members_of sc.defs k) m ≡ Some row → IsOffset sc s row.at → IsSettled sc s
         → IsPointed sc s names a t → IsPointed sc s names (Dot' h p a m) h.ctype
     followed_in_parens : (h : Head) (p : _) (a : Typed) (t : CType) → IsPointed sc s names a t → IsPointed sc s names (Parens' h p a) t
 

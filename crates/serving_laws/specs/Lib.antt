@@ -2,3 +2,4 @@ pub mod Plain
 pub mod Left
 pub mod Named
 pub mod Evaluated
+pub mod Texts

@@ -1,6 +1,6 @@
 -- What a command leaves that found no memory: a session that stands for the machine session as before, over the tables that it has then, and
 -- behind `ps` with what its text had stored. (Units of the tables may have been run; that nothing else became of them isn't said here.)
-use Rattle.std.specs.Prelude.{◌≡◌, ℕ, [], Option, Some, None, Result, Err}
+use Rattle.std.specs.Prelude.{◌≡◌, ℕ, [], Option, Some, None, Result, Ok, Err}
 use Rattle.machine_state.specs.State.{Behaviour, order_of}
 use Rattle.nub_wire.specs.Nub.{Host}
 use Rattle.nub_wire.specs.Delivery.{Conduct, World}
@@ -13,6 +13,9 @@ use Rattle.side_meaning.specs.Stepping.{IsStill}
 use Rattle.side_meaning.specs.Asking.{HasNames, IsAsked}
 use Rattle.side_meaning.specs.Sessions.{OnSecond, SidesStand}
 use Rattle.side_meaning.specs.Storing.{StoresNumbers}
+use Rattle.session.specs.declared.answers.Answer.{Answer}
+use Rattle.session.specs.declared.answers.Answer.TheVariants as answer
+use Rattle.session.specs.declared.answers.End.{End}
 use Rattle.session.specs.declared.modes.Mode.{Mode}
 use Rattle.session.specs.declared.sides.SideRecord.{SideRecord}
 use Rattle.session.specs.Meant.{debugged, sides_of, Hosts, IsThere, AreThere, Represents, IsPlain}
@@ -57,10 +60,21 @@ abbrev pub Leaves : Command → (a a' : SideState) → Type 0
 Leaves (command.Ps text) a a' = WithNumbers a a'
 Leaves c a a' = WithTable a a'
 
--- a line without a command leaves all as it is
-abbrev pub LeavesIfAny : Option Command → (a a' : SideState) → Type 0
-LeavesIfAny None a a' = a' ≡ a
-LeavesIfAny (Some c) a a' = Leaves c a a'
+-- ---- an answer
+
+-- it finds no memory, or an expression was evaluated
+abbrev pub LeavesTarget : Option Command → Result Answer End → Type 0
+LeavesTarget c (Ok answer.NoMemory) = Unit {0}
+LeavesTarget (Some (command.Eval text)) (Ok (answer.Lines l)) = Unit {0}
+LeavesTarget (Some (command.Assign text)) (Ok (answer.Lines l)) = Unit {0}
+LeavesTarget (Some (command.Code text)) (Ok (answer.Lines l)) = Unit {0}
+LeavesTarget c r = ⊥
+
+-- what it leaves changed of a side: an assignment that found memory may have stored numbers, and a line without a command leaves all as it is
+abbrev pub LeavesIfAny : Option Command → Result Answer End → (a a' : SideState) → Type 0
+LeavesIfAny None r a a' = a' ≡ a
+LeavesIfAny (Some (command.Assign text)) (Ok (answer.Lines l)) a a' = WithNumbers a a'
+LeavesIfAny (Some c) r a a' = Leaves c a a'
 
 -- ---- a side
 

@@ -18,7 +18,7 @@ ghost use Rattle.session.specs.Starting.{IsFirst, AreFirst, HasRisen, one_sessio
 ghost use Rattle.nub_wire.specs.Nub.{Host};
 ghost use Rattle.claims.specs.Side.{SessionState};
 ghost use Rattle.session.specs.Meant.{IsThere, ComesTo, Settled, Hosts, AreSteady, AreThere, ResumesAll, SaidAll, NotAll, IsInquiry, IsExpression, IsLook, IsAskable, IsSaid, IsSaidIfAny, AreReadyFor, Represents, AllCleared, AllPrepared, AllSettled, TalksWell, AnswersAs, MeantAnswers, ResumesAs, IsResumable, MayAlsoRun, sides_of};
-ghost use Rattle.session.specs.Wanting.{IsAskedAlone, IsInquired, IsText, Leaves, LeavesIfAny, RepresentsAgain, StandAgain, WithNumbers, WithTable};
+ghost use Rattle.session.specs.Wanting.{IsAskedAlone, IsInquired, IsText, Leaves, LeavesIfAny, LeavesTarget, RepresentsAgain, StandAgain, WithNumbers, WithTable};
 ghost use Rattle.ldb_edge.specs.Count.{Rose};
 ghost use Rattle.resuming.specs.Runs.{CountsRun};
 ghost use Rattle.side_meaning.specs.Sessions.{SidesStand, IsStill};
@@ -260,11 +260,13 @@ impl<L: Link + Drop> Session<L> {
             → AnswersAs b L.conduct (L.world self.new.talk.memory.below.below.below.link) self.new.first self.new.second self.new.mode self.new.limit st (O.taken out.old) (O.taken out.new) (MeantAnswers b st (read_of self.old.raw line.now)) (L.faults self.old.talk.memory.below.below.below.link) (L.faults self.new.talk.memory.below.below.below.link) self.old.broken result }
         ensures raw { self.new.raw ≡ self.old.raw }
         ensures broken { KeepsReply self.old.broken self.new.broken self.new.mode }
-        ensures stays { (b : Behaviour) (hs : Hosts) (st : SessionState) → Represents b L.conduct (L.world self.old.talk.memory.below.below.below.link) self.old.first self.old.second self.old.mode self.old.limit hs st → result ≡ Ok Answer.NoMemory
-            → RepresentsAgain (LeavesIfAny (read_of self.old.raw line.now)) b L.conduct (L.world self.new.talk.memory.below.below.below.link) self.new.first self.new.second self.new.mode self.new.limit st }
+        ensures stays { (b : Behaviour) (hs : Hosts) (st : SessionState) → Represents b L.conduct (L.world self.old.talk.memory.below.below.below.link) self.old.first self.old.second self.old.mode self.old.limit hs st → LeavesTarget (read_of self.old.raw line.now) result → self.new.mode ≡ self.old.mode
+            → RepresentsAgain (LeavesIfAny (read_of self.old.raw line.now) result) b L.conduct (L.world self.new.talk.memory.below.below.below.link) self.new.first self.new.second self.new.mode self.new.limit st }
         ensures target { (b : Behaviour) (hs : Hosts) (st : SessionState) (c : Command) → Represents b L.conduct (L.world self.old.talk.memory.below.below.below.link) self.old.first self.old.second self.old.mode self.old.limit hs st → read_of self.old.raw line.now ≡ Some c → c ≢ Continue → c ≢ Step
             → (self.new.mode ≡ self.old.mode) ⊎ Rose (L.faults self.old.talk.memory.below.below.below.link) (L.faults self.new.talk.memory.below.below.below.link) }
         ensures count { CountsAnswer (L.faults self.old.talk.memory.below.below.below.link) (L.faults self.new.talk.memory.below.below.below.link) self.old.broken self.new.mode result }
+        ensures ends { self.old.broken ≡ codes "target\n" → result ≡ Ok (Answer.Lines (codes "target\n")) → self.new.mode ≡ Mode.Ended }
+        ensures leads { O.leads out.old out.new }
     {
         match read_command(self.alloc, line, self.raw) {
             Err(CmdFault::Line) => Ok(malformed(self.alloc, line)),
