@@ -15,12 +15,13 @@ use Rattle.c_tokens.specs.Units.{AreSpelled, terminals_in}
 use Rattle.ps_emit.specs.Bounds.{cost_of}
 use Rattle.compiled_tables.specs.Conditions.{IsAffordable}
 use Rattle.compiled_tables.specs.Weights.{Rates, AreCovered, rates_of_bytes, rates_of_steps, rates_of_made, total, of_units}
-use Rattle.compiled_tables.proofs.Covered.{bytes_covered, steps_covered, made_covered, units_weigh}
+use Rattle.compiled_tables.proofs.Spelled.{units_weigh}
+use Rattle.compiled_tables.proofs.Covered.{bytes_covered, steps_covered, made_covered}
 use Rattle.compiled_tables.proofs.Agreeing.{Agreeing, IsDeclaredAs, object_constructors}
 use Rattle.compiled_tables.proofs.Agreed.{all_agree}
 use Rattle.compiled_tables.proofs.NameRows.{Weighs, AreWeighed, Costs}
 use Rattle.compiled_tables.proofs.FileRows.{all_cost}
-use Rattle.compiled_tables.proofs.Units.{few_files}
+use Rattle.compiled_tables.proofs.Units.{few_files, loaded_units}
 use Rattle.compiled_tables.proofs.Costs.{of_defined, weight_of, costs}
 
 module _ (r : Rates) (covered : AreCovered r) (q : State) where
@@ -68,6 +69,7 @@ affordable names us tss p s is files few =
     let m = few_tokens_weigh rates_of_made made_covered q us is.1.files tss 40000 s few in
     let bytes : (cost_of p).bytes ≤ 16777216 = omega (arith, costs (λ c. c.bytes) rates_of_bytes.token (λ a b. refl) refl (λ n c. refl) q names p rows stopped, b, files) in
     let f = few_files p in
+    let l = loaded_units in
     record {
       bytes = bytes;
       units = omega (arith, costs (λ c. c.made) rates_of_made.token (λ a b. refl) refl (λ n c. refl) q names p rows stopped, m, files, bytes, f);

@@ -13,11 +13,11 @@ use Rattle.c_scope.specs.Declarators.{Parameter, Shape, Object, Function, shape}
 use Rattle.c_mentions.specs.Literals.{Literal, texts, in_declarator, in_statement}
 use Rattle.c_file.specs.Names.{FileName, composite, is_here, told_before}
 use Rattle.c_file.specs.Files.{State, with_name, with_head, function_row, body_environment, bodied, behind_body, after_function}
-use Rattle.compiled_tables.specs.Weights.{Rates, constructors, derived, of_typed, of_global, of_row, of_parameters, of_head, of_body}
+use Rattle.compiled_tables.specs.Weights.{Rates, constructors, derived, of_typed, of_global, of_row, of_parameters, of_function, of_head, of_body}
 use Rattle.compiled_tables.proofs.ShapeTypes.{shape_type, shape_more}
-use Rattle.compiled_tables.proofs.Sums.{total_of_one}
+use Rattle.compiled_tables.proofs.Sums.{total_of_one, times_append}
 use Rattle.compiled_tables.proofs.BodyTypes.{parameters_weight, shape_parameters, parameters_taken}
-use Rattle.compiled_tables.proofs.BodyNames.{times_append, names_weight, block_weight, parameters_declared}
+use Rattle.compiled_tables.proofs.BodyNames.{names_weight, block_weight, parameters_declared}
 
 pub texts_long : (ls : List Literal) → length (texts ls) ≡ length ls
 texts_long [] = refl
@@ -69,7 +69,7 @@ module _ (r : Rates) where
         omega (arith, block_weight r v x, entered, one, strings_more p.strings (in_statement x))
 
     -- what is declared has so few constructors, and parameters that weigh so little
-    pub function_made : (x : StatementTree) (p : State) (a : Shape) → constructors (shape_type a) ≤ suc (derived d) → shape_parameters r a ≤ of_parameters r d
+    pub function_made : (x : StatementTree) (p : State) (a : Shape) → constructors (shape_type a) ≤ suc (derived d) → shape_parameters r a ≤ of_function r d + of_parameters r d
         → made (after_function s d x p a) ≤ made p + (of_head r d + of_body r x)
     function_made x p (Object t) few taken = omega arith
     function_made x p (Function t ps) few taken =

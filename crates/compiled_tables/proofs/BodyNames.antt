@@ -19,11 +19,8 @@ use Rattle.c_body.specs.Bodies.{after}
 use Rattle.c_body.specs.Stops.{Stop, stop, at_expression, at_part, at_initial, at_locals, at_head, stops, closing, inside_block, stops_of}
 use Rattle.c_file.specs.Files.{with_parameters}
 use Rattle.compiled_tables.specs.Weights.{Rates, total, constructors, derived, present, head_points, of_typed, of_row, of_local, of_declared_local, of_statement}
-use Rattle.compiled_tables.proofs.Sums.{total_of_one}
+use Rattle.compiled_tables.proofs.Sums.{total_of_one, times_append}
 use Rattle.compiled_tables.proofs.BodyTypes.{counted, local_more, parameters_weight}
-
-pub times_append : {A : Type 0} (n : ℕ) (xs ys : List A) → n * length (xs ++ ys) ≡ n * length xs + n * length ys
-times_append n xs ys = let e = ap (λ m. n * m) (length-append xs ys) in omega (arith, e)
 
 part_stops : (v : Environment) (e : Option Tree) → length (at_part v e) ≡ present e
 part_stops v None = refl

@@ -1,7 +1,7 @@
 -- What the parameters of a function weigh, and how many constructors the type of a local has.
 use Rattle.std.proofs.Common.{◌≡◌, refl, ap, ℕ, suc, ◌+◌, ◌*◌, ◌≤◌, Bool, true, false, if◌then◌else◌, List, [], ◌∷◌, ◌++◌, Some, None, arith}
 use Rattle.std.proofs.Math.Nat.{mul-le-mul_left}
-use Rattle.std.specs.Prelude.{not, ◌&&◌, ◌||◌}
+use Rattle.std.specs.Prelude.{not, ◌||◌}
 use Rattle.c_trees.specs.declared.expression.Spec.{Spec}
 use Rattle.c_trees.specs.Declarators.{DeclaratorTree, Name, Parens, Pointers, Array, Function as Applied, Taking, Named, Unnamed, begins}
 use Rattle.c_trees.specs.declared.declaration.Declared.{Declared}
@@ -13,7 +13,7 @@ use Rattle.c_judge.specs.Judgement.{spec_type, pointers}
 use Rattle.c_scope.specs.Environment.{Environment, scope_of}
 use Rattle.c_scope.specs.Declarators.{Parameter, Shape, Object, Function, is_name, is_function, name_in, unbounded, bounded, unnamed, parameter, is_taken, with_one, function, unsized, shape, parameters, taken}
 use Rattle.c_body.specs.Locals.{kept, local_type}
-use Rattle.compiled_tables.specs.Weights.{Rates, total, constructors, derived, of_typed, of_parameter, of_parameters}
+use Rattle.compiled_tables.specs.Weights.{Rates, total, constructors, derived, of_typed, of_parameter, of_parameters, of_function}
 use Rattle.compiled_tables.proofs.ShapeTypes.{shape_type, shape_more}
 use Rattle.compiled_tables.proofs.Sums.{total-append}
 use Rattle.compiled_tables.proofs.StructRows.{spec_one}
@@ -111,10 +111,20 @@ module _ (r : Rates) where
   unnamed_parameter : (b : Bool) (at : ℕ) (t : Plain) → counted one_weight (parameter None b at (Object t)) ≤ 0
   unnamed_parameter b at t = only_if (is_scalar (value_type t)) (record { name = None; ctype = value_type t; register = b }) one_weight 9 at
 
-  -- the parameters of what is declared
+  -- a function that is declared, with its parameters
   abbrev pub shape_parameters : Shape → ℕ
   shape_parameters (Object t) = 0
-  shape_parameters (Function t ps) = parameters_weight ps
+  shape_parameters (Function t ps) = r.function + parameters_weight ps
+
+  has_function : (d : DeclaratorTree) → is_function d ≡ true → r.function ≤ of_function r d
+  has_function (Name at text) e = absurd cc
+  has_function (Parens at d) e = has_function d e
+  has_function (Pointers at n d) e = absurd cc
+  has_function (Array at d b) e = absurd cc
+  has_function (Applied at d) e = omega arith
+  has_function (Taking d p) e = has_function d e
+  has_function (Named at b s d) e = absurd cc
+  has_function (Unnamed at s d) e = absurd cc
 
   module _ (v : Environment) where
     taken_one : (p : DeclaratorTree) → counted one_weight (taken v p) ≤ of_parameter r p
@@ -145,27 +155,27 @@ module _ (r : Rates) where
     parameters_more (Named at b s d) = omega arith
     parameters_more (Unnamed at s d) = omega arith
 
-    function_parameters : (b : Bool) (at : ℕ) (t : Plain) (ps : List Parameter) → counted shape_parameters (function b at t ps) ≤ parameters_weight ps
-    function_parameters b at t ps = only_if (b && is_result t) (Function t ps) shape_parameters 9 at
+    function_parameters : (b : Bool) (at : ℕ) (t : Plain) (ps : List Parameter) (n : ℕ) → (b ≡ true → r.function ≤ n) → counted shape_parameters (function b at t ps) ≤ parameters_weight ps + n
+    function_parameters true at t ps n h = omega (arith, only_if (is_result t) (Function t ps) shape_parameters 9 at, h refl)
+    function_parameters false at t ps n h = omega arith
 
     unsized_parameters : (b : Bool) (at : ℕ) (t : Plain) → counted shape_parameters (unsized v b at t) ≤ 0
     unsized_parameters true at t = then_within (unbounded v at t) (λ u. Known (Object u)) shape_parameters 0 (λ u. omega arith)
     unsized_parameters false at t = omega arith
 
-    parameters_counted : (d : DeclaratorTree) (t : Plain) → counted shape_parameters (shape v d t) ≤ of_parameters r d
+    parameters_counted : (d : DeclaratorTree) (t : Plain) → counted shape_parameters (shape v d t) ≤ of_function r d + of_parameters r d
     parameters_counted (Name at text) t = omega arith
     parameters_counted (Parens at d) t = parameters_counted d t
     parameters_counted (Pointers at n d) t = then_within (pointers v.defs at.at n t) (shape v d) shape_parameters _ (λ u. parameters_counted d u)
     parameters_counted (Array at d (Some e)) t = then_within (bounded v e t) (shape v d) shape_parameters _ (λ u. parameters_counted d u)
     parameters_counted (Array at d None) t = omega (arith, unsized_parameters (is_name d) at.at t)
-    parameters_counted (Applied at d) t = function_parameters (is_name d) at.at t []
+    parameters_counted (Applied at d) t = omega (arith, function_parameters (is_name d) at.at t [] r.function (λ e. omega arith))
     parameters_counted (Taking d p) t =
-        let a = then_counted (parameters v (Taking d p)) (function (is_function d) (begins d).at t) parameters_weight shape_parameters 0
-        (λ ps. omega (arith, function_parameters (is_function d) (begins d).at t ps)) in
+        let a = then_counted (parameters v (Taking d p)) (function (is_function d) (begins d).at t) parameters_weight shape_parameters (of_function r d)
+        (λ ps. function_parameters (is_function d) (begins d).at t ps (of_function r d) (has_function d)) in
         omega (arith, a, parameters_more (Taking d p))
     parameters_counted (Named at b s d) t = omega arith
     parameters_counted (Unnamed at s d) t = omega arith
 
-    -- the parameters of a function that is declared
-    pub parameters_taken : (d : DeclaratorTree) (t : Plain) (s : Shape) → shape v d t ≡ Known s → shape_parameters s ≤ of_parameters r d
+    pub parameters_taken : (d : DeclaratorTree) (t : Plain) (s : Shape) → shape v d t ≡ Known s → shape_parameters s ≤ of_function r d + of_parameters r d
     parameters_taken d t s e = let n = ap (λ (m : Answer Shape). counted shape_parameters m) e in omega (arith, n, parameters_counted d t)

@@ -130,7 +130,7 @@ module _ (q : State) (names : List (List ℕ)) (p : Program) (at : Placement) (r
   within = record {
     bytes = affordable.bytes;
     units = units_fit p affordable.bytes;
-    steps = affordable.steps;
+    steps = let s = affordable.steps in omega arith;
     structs = few;
     members = few_members p tokens;
     objects = statics;

@@ -26,7 +26,7 @@ use Rattle.compiled_tables.proofs.Files.{stop_count}
 use Rattle.compiled_tables.proofs.ShapeTypes.{then_known, known_same, shape_type, shape_more}
 use Rattle.compiled_tables.proofs.StructRows.{times_more, all_members}
 use Rattle.compiled_tables.proofs.Agreeing.{IsOf, IsDeclaredAs, declared_on}
-use Rattle.compiled_tables.proofs.BodyNames.{times_append}
+use Rattle.compiled_tables.proofs.Sums.{times_append}
 use Rattle.compiled_tables.proofs.BodyAdds.{texts_long, made, strings_more, named_made}
 
 -- ---- declared types

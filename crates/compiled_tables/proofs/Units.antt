@@ -53,7 +53,7 @@ light_program p =
 pub few_files : (p : Program) → 1126 * length p.units ≤ (cost_of p).bytes
 few_files p = omega arith
 
-loaded_units : loaded.store.table.units + loaded.store.command.units ≤ 200000
+pub loaded_units : loaded.store.table.units + loaded.store.command.units ≤ 200000
 unfolding digits is_white is_special is_regular is_hexadecimal operator_number
 loaded_units = omega arith
 

@@ -55,18 +55,18 @@ rates of token = record {
 abbrev pub rates_of_bytes : Rates
 rates_of_bytes = rates (λ c. c.bytes) per_token.bytes
 
--- of steps there are more than enough, so each string may be paid for by its own token
 abbrev pub rates_of_steps : Rates
-rates_of_steps = rates (λ c. c.steps) 60
+rates_of_steps = rates (λ c. c.steps) per_token.steps
 
--- and so it is with the units of what is made
+-- of units there are more than enough, so the two parentheses of a function pay for it alone
 abbrev pub rates_of_made : Rates
-rates_of_made = rates (λ c. c.made) 42
+rates_of_made = rates (λ c. c.made) 50
 
--- What tokens pay for: a literal, a `*` and the `[` of a bound each pay for one item, and so do the tag of a struct and the word, `=`, `;` or brace at a
--- stopping point; a declared name pays together with the token behind it; a function has a type, a name and two braces at least.
+-- What tokens pay for: a `*` and the `[` of a bound each pay for one item, and so do the tag of a struct and the word, `=`, `;` or brace at a stopping
+-- point. A string is paid for by itself and the token behind it, which may stand at a point; a declared name by itself and the token behind it; and a function
+-- by its two parentheses.
 pub record AreCovered (r : Rates) : Type 0 where
-  pub string : r.string ≤ r.token
+  pub string : r.string + r.point ≤ 2 * r.token
   pub struct : r.struct ≤ r.token
   pub constructor : r.constructor ≤ r.token
   pub point : r.point ≤ r.token
@@ -75,7 +75,7 @@ pub record AreCovered (r : Rates) : Type 0 where
   pub object : r.object + r.object_symbol + r.constructor ≤ 2 * r.token
   -- a name at file scope that is a function's weighs no more than an object's
   pub declared : r.symbol ≤ r.object + r.object_symbol
-  pub function : r.function + r.symbol + r.constructor + 2 * r.point ≤ 4 * r.token
+  pub function : r.function ≤ 2 * r.token
 
 -- ---- counts
 
@@ -169,6 +169,15 @@ module _ (r : Rates) where
   of_parameters (Taking d p) = of_parameters d + of_parameter p
   of_parameters _ = 0
 
+  -- a function, at its parentheses
+  abbrev pub of_function : DeclaratorTree → ℕ
+  of_function (Parens _ d) = of_function d
+  of_function (Pointers _ _ d) = of_function d
+  of_function (Array _ d _) = of_function d
+  of_function (Function _ _) = r.function
+  of_function (Taking d _) = of_function d
+  of_function _ = 0
+
   -- ---- bodies: their locals and stopping points
 
   -- an initialized local has a point
@@ -215,7 +224,7 @@ module _ (r : Rates) where
 
   -- a function with its symbol, its parameters, and the points at its braces
   abbrev pub of_head : DeclaratorTree → ℕ
-  of_head d = r.function + of_local d + of_parameters d + 2 * r.point + r.string * length (in_declarator d)
+  of_head d = of_function d + of_local d + of_parameters d + 2 * r.point + r.string * length (in_declarator d)
 
   -- what an external declaration declares
   abbrev pub of_declared : External → ℕ

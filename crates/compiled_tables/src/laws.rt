@@ -17,11 +17,11 @@ use c_accepted::{checked_programs_are_accepted, files_are_texts};
 use c_lex::one_reading;
 use c_tokens::{names_are_identifiers, programs_have_few_tokens};
 use obj_placed::placed_word_by_word;
-use ps_tables::accepted_types_run;
+use ps_tables::{accepted_types_run, counted_tables_run};
 use table_ends::counted_tables_come;
 use unit_tables::units_are_bounded;
 
-/// What is counted for the items of a checked program of at most 16 files and 40,000 tokens is within the limits of a table.
+/// What is counted for the items of a checked program of at most 16 files and 40,000 tokens is within the limits of a table, with what the prelude takes, and with the steps of the printers in one `print`.
 pub fn programs_are_affordable()
     ensures { (names : List (List ℕ)) (us : List (List External)) (tss : List (List Terminal)) (p : Program) → AreSpelled us tss → Checks names us (Ok p) → length names ≤ 16 → terminals_in tss ≤ 40000 → IsAffordable p }
 {}
@@ -41,7 +41,7 @@ pub fn compiled_tables_come()
     counted_tables_come();
 }
 
-/// The rows of the program that sources become, and of where it is placed, keep the conditions under which the functions of its units are run: types of symbols run, names lead outward to lower numbers, and scopes nest, so that a name in scope at a point that stands before one that was made is on that one's chain. The table and its units, each used once, take no more steps and units of the store than are counted for the program, beside those of the deferred texts.
+/// The rows of the program that sources become, and of where it is placed, keep the conditions under which the functions of its units are run: types of symbols run, names lead outward to lower numbers, and scopes nest, so that a name in scope at a point that stands before one that was made is on that one's chain. With each unit used once the table is within the limits, with what the prelude takes, and with the steps of the printers in one `print`.
 pub fn compiled_units_run()
     ensures { (aim : Aim) (names texts : List (List ℕ)) (image : ImageFields) (table : List ℕ) (built : IsBuilt aim names texts image table) → length names ≡ length texts → length names ≤ 16 → AreFileNames names → HasRunningUnits built.program (placement_of aim built.rows) }
 {
@@ -53,5 +53,6 @@ pub fn compiled_units_run()
     one_reading();
     placed_word_by_word();
     accepted_types_run();
+    counted_tables_run();
     units_are_bounded();
 }

@@ -1,5 +1,5 @@
 -- A program whose rows keep to names and words, and which costs not too much, has a table that runs.
-use Rattle.std.proofs.Common.{◌≡◌, ℕ, ◌+◌, ◌*◌, ◌≤◌, List, [], ◌∷◌, length, refl, arith}
+use Rattle.std.proofs.Common.{◌≡◌, ℕ, ◌+◌, ◌*◌, ◌/◌, ◌≤◌, List, [], ◌∷◌, length, refl, arith}
 use Rattle.std.specs.List.{AllByRecursion}
 use Rattle.obj_file.specs.declared.object.FunctionRow.{FunctionRow}
 use Rattle.c_tree.specs.declared.types.StructDef.{StructDef}
@@ -136,12 +136,14 @@ module _ (p : Program) (at : Placement) (rows : HasRows p at) (parted : IsParted
   pub text_within : length (table_text p at) ≤ 16777216
   text_within = let e = text_fits in let f = fits in let b = within.bytes in omega arith
 
-  pub few_units : text_units (table_text p at) + table_made p at ≤ units_of p
-  few_units =
-      let a = table_makes p at short in
+  pub few_in_texts : text_units (table_text p at) + deferred_units p at.functions p.units ≤ (cost_of p).bytes / 8 + 2 * (1 + length p.units)
+  few_in_texts =
       let e = text_fits in
       let f = fits in
       let g = holds in
       let d = units_have p at.functions p.units in
       let s = deferred_short p at.functions p.units in
       omega arith
+
+  pub few_units : text_units (table_text p at) + table_made p at ≤ units_of p
+  few_units = let a = table_makes p at short in let b = few_in_texts in omega arith

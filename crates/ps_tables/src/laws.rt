@@ -1,6 +1,6 @@
 //! What holds of runs of tables.
 
-ghost use Rattle.std.specs.Prelude.{◌≡◌, ℕ, ℤ, ◌+◌, ◌<◌, ◌≤◌, ◌^◌, ◌∷◌, [], ◌++◌, List, length, codes, drop, suc, true, Some, Ok};
+ghost use Rattle.std.specs.Prelude.{◌≡◌, ℕ, ℤ, ◌+◌, ◌*◌, ◌/◌, ◌<◌, ◌≤◌, ◌^◌, ◌∷◌, [], ◌++◌, List, length, codes, drop, suc, true, Some, Ok};
 ghost use Rattle.ps_store.specs.declared.object.PsObj.{PsObj};
 ghost use Rattle.ps_store.specs.declared.object.PsObj.TheVariants.{Int, Str, Dict};
 ghost use Rattle.ps_store.specs.declared.key.Key.TheVariants.{Name as NameKey};
@@ -139,11 +139,12 @@ pub fn tables_are_short()
     ensures { (p : Program) (at : Placement) → HasRows p at → IsParted p → length (table_text p at) ≤ (cost_of p).bytes }
 {}
 
-/// So a program whose rows are so, whose types run, and which costs not too much, keeps the conditions of runs, and its text, units and steps have room.
+/// So a program whose rows are so, whose types run, and which costs not too much, keeps the conditions of runs, and its text, units and steps have room; the deferred texts are parts of the text, so together they count at most a unit for each 8 bytes and two for each of them.
 pub fn counted_tables_run()
     ensures runs { (p : Program) (at : Placement) → HasRows p at → IsParted p → HasTypes p → IsWithin p → Runnable p at }
     ensures bytes { (p : Program) (at : Placement) → HasRows p at → IsParted p → IsWithin p → length (table_text p at) ≤ 16777216 }
     ensures units { (p : Program) (at : Placement) → HasRows p at → IsParted p → IsWithin p → text_units (table_text p at) + table_made p at ≤ units_of p }
+    ensures texts { (p : Program) (at : Placement) → HasRows p at → IsParted p → IsWithin p → text_units (table_text p at) + deferred_units p at.functions p.units ≤ (cost_of p).bytes / 8 + 2 * (1 + length p.units) }
     ensures steps { (p : Program) (at : Placement) → HasRows p at → IsParted p → IsWithin p → table_steps p at + 2 ≤ 10000000 }
 {}
 

@@ -17,7 +17,7 @@ use Rattle.compiled_tables.proofs.Placed.{anchors_are_words, rows_are_placed}
 use Rattle.compiled_tables.proofs.Framed.{are_framed}
 use Rattle.compiled_tables.proofs.Programs.{names_are_own, built_ins_are}
 use Rattle.compiled_tables.proofs.Followed.{functions_are_followed}
-use Rattle.compiled_tables.proofs.Compiled.{few_items, parted, has_rows}
+use Rattle.compiled_tables.proofs.Compiled.{few_items, within, parted, has_rows}
 use Rattle.compiled_tables.proofs.UnitRows.{units_run, few_functions, short_rows}
 use Rattle.compiled_tables.proofs.laws.compiled_units_run.Goals as goal
 
@@ -51,10 +51,12 @@ returns c aim names texts image table built long sixteen files =
     let parts = parted q names p at rows keeps tokens c.accepted_types_run.ensures.types structs objects files identifiers affordable statics
     (built_ins_are q names p rows (tags_of is.0) is.0 is.2.1.files) (names_are_own q names p rows (tags_of is.0) is.0 is.2.1.files as_long) in
     let runs = units_run q names p at rows identifiers items keeps (c.accepted_types_run.ensures.types p.defs) affordable (few_structs p tokens) framed in
+    let is_within = within q names p at rows keeps tokens c.accepted_types_run.ensures.types structs objects files identifiers affordable statics in
     let brief = short_rows q names p at rows identifiers items files built.image_of.one_each in
     record {
       runs = runs;
       followed = both p at.functions p.units (functions_are_followed p at.functions q names rows (tags_of is.0) is.0 is.2.1.files as_long) (few_functions q names p at rows identifiers items);
-      steps = c.units_are_bounded.ensures.steps p at has parts brief runs.placed;
-      made = c.units_are_bounded.ensures.made p at has parts brief runs.placed;
+      bytes = c.counted_tables_run.ensures.bytes p at has parts is_within;
+      units = omega (arith, affordable.units, c.counted_tables_run.ensures.texts p at has parts is_within, c.units_are_bounded.ensures.made p at has parts brief runs.placed);
+      steps = omega (arith, affordable.steps, c.units_are_bounded.ensures.steps p at has parts brief runs.placed);
     }
