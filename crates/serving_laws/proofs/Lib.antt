@@ -17,4 +17,5 @@ mod Pointers
 mod Evaluated
 mod Kept
 mod Texts
+mod Settled
 mod Examples

@@ -26,7 +26,8 @@ ghost use Rattle.expr_serve.specs.Codes.{value_code, text_of};
 ghost use Rattle.serving_laws.specs.Plain.{IsPlain, RoomFor};
 ghost use Rattle.serving_laws.specs.Left.{AreOperators, AreLeft, AreServed};
 ghost use Rattle.machine_state.specs.Sound.{IsMemory};
-ghost use Rattle.serving_laws.specs.Evaluated.{IsEvaluated, AreEvaluated};
+ghost use Rattle.ps_bare.specs.Deferred.{IsDeferred};
+ghost use Rattle.serving_laws.specs.Evaluated.{IsSettled, IsEvaluated, AreEvaluated};
 ghost use Rattle.serving_laws.specs.Texts.{IsWhole, AreReadAndEvaluated};
 ghost use Rattle.serving_laws.specs.Named.{HasSpaces, IsRead, dial_in, dictionaries_in, AreRead};
 
@@ -60,7 +61,13 @@ pub fn expressions_are_evaluated()
 {}
 
 /// So does the text of such an expression, once it is executed as a string, where the expression's value is no struct: it is read as one procedure, which is run. The text's words
-/// and numbers are tokens, the store has room for its objects, and holds all that its dictionaries and arrays refer to; what the pieces look up is in the store before the text is read.
+/// and numbers are tokens, the store has room for its objects, and holds all that its dictionaries and arrays refer to. `IsEvaluated` is asked of the
+/// store before the text is read, and what the expression means is told of the store behind that.
 pub fn texts_are_evaluated()
     ensures { (sc : Scene) (s : StoreState) (cell : ℕ) (own : DictId) (names : List Symbol) (e : Typed) (o : List PsObj) (items : List Item) (i : StringId) (out : List ℕ) (raw : Bool) → HasSpaces s → IsWhole s → AreOperators s (dictionaries_in s own) → IsMemory sc.target.regions → IsEvaluated sc s names e → is_struct (type_of e) ≡ false → RoomFor e (length o) (suc (length items)) → under_stopped items ≡ None → IsString s i (text_of names sc.defs Value e) → Fine (value_code names sc.defs e) → size (value_code names sc.defs e) ≤ 1000000 → s.table.units + s.command.units + units (Proc (value_code names sc.defs e) (Word (codes "exec") Stop)) ≤ 8000000 → AreReadAndEvaluated sc names e s cell own o items i (dial_in sc cell out raw) }
+{}
+
+/// Where each unit of a table was run, none has to be run first where an object is looked up, as `IsEvaluated` asks it.
+pub fn run_tables_are_settled()
+    ensures { (sc : Scene) (s : StoreState) → ((u : ℕ) → IsDeferred s u → ⊥) → IsSettled sc s }
 {}

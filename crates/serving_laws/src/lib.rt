@@ -4,6 +4,6 @@
 mod laws;
 
 pub use laws::{
-    expressions_are_evaluated, named_places_are_read, texts_are_evaluated, texts_are_served,
-    values_are_left,
+    expressions_are_evaluated, named_places_are_read, run_tables_are_settled, texts_are_evaluated,
+    texts_are_served, values_are_left,
 };
