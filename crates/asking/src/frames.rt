@@ -111,6 +111,7 @@ pub fn listing<W: AbsMem + Drop>(
     ensures more { inquiry.old.steps.taken ≤ inquiry.new.steps.taken }
     ensures closed { Settles (closed_part inquiry.old.core.store) (closed_part inquiry.new.core.store) }
     ensures unrefused { IfErr result (λ fault. IsUnrefused fault) }
+    ensures word { IfOk result (λ text. BeginsWith (codes "frames ") text) }
     ensures meaning { ComesOver (listing (row_of_target talk.old.view.target) talk.old.view.context) inquiry.old (W.seen talk.old.memory.below.below.below) result inquiry.new (W.seen talk.new.memory.below.below.below) }
     ensures calls { LedAsk W.leads talk.old.memory.below.below.below result talk.new.memory.below.below.below }
     ensures kept { talk.new ≡ with_target talk.old talk.new.memory.below.below.below }

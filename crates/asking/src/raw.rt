@@ -7,7 +7,7 @@ ghost use Rattle.table_asks.specs.Asking.{LedAsk};
 ghost use Rattle.table_asks.specs.Running.{RanOver};
 ghost use Rattle.table_asks.specs.Talking.{with_target};
 ghost use Rattle.machine_state.specs.declared.layout.TheConstants.{CONTEXT_WORDS};
-ghost use Rattle.asking.specs.Lines.{target_text};
+ghost use Rattle.asking.specs.Lines.{target_text, BeginsWith};
 ghost use Rattle.asking.specs.Doing.{Asks, talk_in};
 ghost use Rattle.ps_ops.specs.declared.view.Standing.TheVariants.{Numbered};
 ghost use Rattle.asking.specs.Raw.{words_behind, regs_line, ps_line, text_fault, PsOver};
@@ -46,6 +46,7 @@ fn append_words<M: AbsMem>(
 ) -> Result<(), AskFault>
     requires inside { number + count ≤ CONTEXT_WORDS }
     ensures unrefused { IfErr result (λ fault. IsUnrefused fault) }
+    ensures front { OnOk result (BeginsWith out.old out.new) }
     ensures meaning { Asks (M.seen m.old) (words_behind out.old context number count) (in_ok (λ u. out.new) result) (M.seen m.new) }
     ensures calls { LedAsk M.leads m.old result m.new }
 {
@@ -77,6 +78,7 @@ fn head_of(alloc: Global, target: u8) -> Result<Text, AllocError>
 /// `regs`: the target and the words of its context block.
 pub fn registers<W: AbsMem + Drop>(alloc: Global, talk: &mut Operators<W>) -> Result<Text, AskFault>
     ensures unrefused { IfErr result (λ fault. IsUnrefused fault) }
+    ensures word { IfOk result (λ text. BeginsWith (codes "regs ") text) }
     ensures meaning { Asks (W.seen talk.old.memory.below.below.below) (regs_line talk.old.view.target talk.old.view.context) result (W.seen talk.new.memory.below.below.below) }
     ensures calls { LedAsk W.leads talk.old.memory.below.below.below result talk.new.memory.below.below.below }
     ensures kept { talk.new ≡ with_target talk.old talk.new.memory.below.below.below }
@@ -137,6 +139,7 @@ pub fn running_text<W: AbsMem + Drop>(
     ensures more { inquiry.old.steps.taken ≤ inquiry.new.steps.taken }
     ensures closed { Settles (closed_part inquiry.old.core.store) (closed_part inquiry.new.core.store) }
     ensures unrefused { IfErr result (λ fault. IsUnrefused fault) }
+    ensures word { IfOk result (λ text. BeginsWith (codes "ps") text) }
     ensures calls { RanOver W.seen W.leads talk.old.memory.below.below.below result talk.new.memory.below.below.below }
     ensures meaning { PsOver W.seen text.now inquiry.old (talk_in talk.old (Numbered number) true) result inquiry.new talk.new }
 {

@@ -1,6 +1,6 @@
 // `print`.
 
-ghost use Rattle.std.specs.Prelude.{◌≡◌, ◌≤◌, Err, IfErr};
+ghost use Rattle.std.specs.Prelude.{◌≡◌, ◌≤◌, Err, IfErr, IfOk, codes};
 ghost use Rattle.std.specs.List.{list_all};
 ghost use Rattle.c_lex.specs.Bytes.{is_letter, is_part};
 ghost use Rattle.c_reading.specs.Readings.{is_identifier};
@@ -11,6 +11,7 @@ ghost use Rattle.table_asks.specs.Closing.{Settles};
 ghost use Rattle.table_asks.specs.Faults.{IsUnbroken};
 ghost use Rattle.table_asks.specs.Running.{RanOver};
 ghost use Rattle.asking.specs.Doing.{talk_in};
+ghost use Rattle.asking.specs.Lines.{BeginsWith};
 ghost use Rattle.asking.specs.Printing.{procedure_of, unless_too_deep, type_of, variable_type, printed, dial_in, printed_in, printing, EndsOver, target_with, PlacedOver, ShownOver};
 
 use crate::lines::value_text;
@@ -229,6 +230,7 @@ fn print_symbol<W: AbsMem + Drop>(
     ensures more { inquiry.old.steps.taken ≤ inquiry.new.steps.taken }
     ensures closed { Settles (closed_part inquiry.old.core.store) (closed_part inquiry.new.core.store) }
     ensures calls { RanOver W.seen W.leads talk.old.memory.below.below.below result talk.new.memory.below.below.below }
+    ensures word { IfOk result (λ text. BeginsWith (codes "value ") text) }
     ensures meaning { EndsOver (λ t. printed symbol (dial_in t frame scope)) (target_with talk.old) inquiry.old (W.seen talk.old.memory.below.below.below) result inquiry.new (W.seen talk.new.memory.below.below.below) }
 {
     let ctype = match variable_type(inquiry, symbol) {
@@ -262,6 +264,7 @@ fn print_in<W: AbsMem + Drop>(
     ensures more { inquiry.old.steps.taken ≤ inquiry.new.steps.taken }
     ensures closed { Settles (closed_part inquiry.old.core.store) (closed_part inquiry.new.core.store) }
     ensures calls { RanOver W.seen W.leads talk.old.memory.below.below.below result talk.new.memory.below.below.below }
+    ensures word { IfOk result (λ text. BeginsWith (codes "value ") text) }
     ensures meaning { EndsOver (printed_in number frame name.now) (target_with talk.old) inquiry.old (W.seen talk.old.memory.below.below.below) result inquiry.new (W.seen talk.new.memory.below.below.below) }
 {
     if !is_identifier(name) {
@@ -291,6 +294,7 @@ pub fn printing<W: AbsMem + Drop>(
     ensures more { inquiry.old.steps.taken ≤ inquiry.new.steps.taken }
     ensures closed { Settles (closed_part inquiry.old.core.store) (closed_part inquiry.new.core.store) }
     ensures calls { RanOver W.seen W.leads talk.old.memory.below.below.below result talk.new.memory.below.below.below }
+    ensures word { IfOk result (λ text. BeginsWith (codes "value ") text) }
     ensures meaning { EndsOver (printing number name.now) (target_with talk.old) inquiry.old (W.seen talk.old.memory.below.below.below) result inquiry.new (W.seen talk.new.memory.below.below.below) }
 {
     match frame_found(inquiry, talk, number) {

@@ -30,6 +30,7 @@ fn meet<L: Link + Drop, S: Sink>(
         → CameTold b L.conduct wire.old.side (its_event b kind row.old limit h) (its_output b kind row.old limit h) (host_at_event b kind row.old limit h) beside result (L.world wire.new.link) wire.new.order (S.taken out.old) (S.taken out.new) }
     ensures calls { SideCalled L.took L.gave wire.old.side wire.old.link result wire.new.side wire.new.link }
     ensures cause { CountsRun (L.faults wire.old.link) (L.faults wire.new.link) (S.faults out.old) (S.faults out.new) result }
+    ensures leads { S.leads out.old out.new }
     ensures event { IfOk result (λ event. Met row.old event) }
     ensures stands { IfOk result (λ event. row.new.stands_at ≡ stood row.old.kept row.old.stands_at event) }
     ensures kept { row.new.kept ≡ row.old.kept }
@@ -68,6 +69,7 @@ pub fn resume_side<L: Link + Drop, S: Sink>(
         → CameTold b L.conduct wire.old.side (its_event b kind row.old limit h) (its_output b kind row.old limit h) (host_behind b kind row.old limit h) beside result (L.world wire.new.link) wire.new.order (S.taken out.old) (S.taken out.new) }
     ensures calls { SideCalled L.took L.gave wire.old.side wire.old.link result wire.new.side wire.new.link }
     ensures cause { CountsRun (L.faults wire.old.link) (L.faults wire.new.link) (S.faults out.old) (S.faults out.new) result }
+    ensures leads { S.leads out.old out.new }
     ensures event { IfOk result (λ event. Met row.old event) }
     ensures stands { IfOk result (λ event. row.new.stands_at ≡ stood row.old.kept row.old.stands_at event) }
     ensures kept { row.new.kept ≡ row.old.kept }

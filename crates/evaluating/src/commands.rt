@@ -1,10 +1,11 @@
 // The commands.
 
-ghost use Rattle.std.specs.Prelude.{◌≡◌, ◌≤◌, IfErr};
+ghost use Rattle.std.specs.Prelude.{◌≡◌, ◌≤◌, ◌∷◌, ◌++◌, [], IfErr, IfOk, codes};
 ghost use Rattle.ps_store.specs.Store.{closed_part};
 ghost use Rattle.table_asks.specs.Closing.{Settles};
 ghost use Rattle.table_asks.specs.Faults.{IsUnbroken};
 ghost use Rattle.evaluating.specs.Told.{StoresNone, reasoned};
+ghost use Rattle.asking.specs.Lines.{BeginsWith};
 
 use crate::depths::is_struct;
 use crate::leaves::{fetch_leaves, further, leaves_of};
@@ -43,7 +44,9 @@ fn undefined(reason: Undef) -> AskFault
 }
 
 /// A word, a text and LF.
-fn line(alloc: Global, word: &[u8], text: &[u8]) -> Result<Text, AllocError> {
+fn line(alloc: Global, word: &[u8], text: &[u8]) -> Result<Text, AllocError>
+    ensures { IfOk result (λ t. t ≡ word.now ++ (text.now ++ (10 ∷ []))) }
+{
     let mut line = Text::from_slice(alloc, word)?;
     line.append(text)?;
     line.append(b"\n")?;
@@ -52,7 +55,8 @@ fn line(alloc: Global, word: &[u8], text: &[u8]) -> Result<Text, AllocError> {
 
 /// The reply of a word and a text.
 fn reply(alloc: Global, word: &[u8], text: &[u8]) -> Result<Text, AskFault>
-    ensures { IfErr result (λ fault. fault ≡ AskFault.NoMemory) }
+    ensures err { IfErr result (λ fault. fault ≡ AskFault.NoMemory) }
+    ensures ok { IfOk result (λ t. t ≡ word.now ++ (text.now ++ (10 ∷ []))) }
 {
     match line(alloc, word, text) {
         Ok(line) => Ok(line),
@@ -94,6 +98,7 @@ pub fn evaluating<W: AbsMem + Drop>(
     ensures within { inquiry.new.steps.taken ≤ inquiry.new.steps.limit }
     ensures limit { inquiry.new.steps.limit ≡ inquiry.old.steps.limit }
     ensures closed { Settles (closed_part inquiry.old.core.store) (closed_part inquiry.new.core.store) }
+    ensures word { IfOk result (λ text. BeginsWith (codes "value ") text) }
     ensures told { StoresNone W.seen talk.old result talk.new }
 {
     let alloc = inquiry.core.operands.allocator();
@@ -114,6 +119,7 @@ pub fn coding<W: AbsMem + Drop>(
     ensures within { inquiry.new.steps.taken ≤ inquiry.new.steps.limit }
     ensures limit { inquiry.new.steps.limit ≡ inquiry.old.steps.limit }
     ensures closed { Settles (closed_part inquiry.old.core.store) (closed_part inquiry.new.core.store) }
+    ensures word { IfOk result (λ text. BeginsWith (codes "code ") text) }
     ensures told { StoresNone W.seen talk.old result talk.new }
 {
     let alloc = inquiry.core.operands.allocator();

@@ -48,6 +48,7 @@ pub fn run_to_event<L: Link, S: Sink>(
         → RunTold b L.conduct side turns h beside result (L.world link.new) (S.taken out.old) (S.taken out.new) }
     ensures calls { RunsBy (took_on L.took side) (gave_on L.gave side) turns link.old result link.new }
     ensures cause { CountsRun (L.faults link.old) (L.faults link.new) (S.faults out.old) (S.faults out.new) result }
+    ensures leads { S.leads out.old out.new }
 {
     let mut resumption = match Resumption::begin(link, side, turns) {
         Ok(resumption) => resumption,

@@ -12,6 +12,7 @@ pub fn put<S: Sink>(sink: &mut S, bytes: &[u8]) -> Result<(), Failed>
     ensures ok { OnOk result (S.taken sink.new ≡ known_and (S.taken sink.old) bytes.now) }
     ensures err { OnErr result (TakesFront (S.taken sink.old) (S.taken sink.new) bytes.now) }
     ensures cause { CountsFailure (S.faults sink.old) (S.faults sink.new) result }
+    ensures leads { S.leads sink.old sink.new }
 {
     let mut done = 0;
     while done < bytes.len() {

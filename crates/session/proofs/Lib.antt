@@ -24,3 +24,4 @@ mod Storing
 mod Looking
 mod Looked
 mod Tallying
+mod Ending

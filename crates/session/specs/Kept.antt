@@ -82,12 +82,13 @@ IsBrokenOff faults faults' broken mode text = Rose faults faults' × (mode ≡ E
 abbrev pub TellsTrouble : (broken : List ℕ) → Result Answer End → Type 0
 TellsTrouble broken answer = AnswersTrouble answer × (answer ≢ Ok (Lines broken))
 
--- what a command says that sets a breakpoint, takes one away or chooses a frame begins with its word
+-- What a command says that sets a breakpoint, takes one away or chooses a frame begins with its word; what another one says isn't the last reply of a
+-- link that failed.
 abbrev pub SaysDone : Command → (text : List ℕ) → Type 0
 SaysDone (command.Break spot) text = BeginsWith (codes "break ") text
 SaysDone (command.Clear spot) text = BeginsWith (codes "clear ") text
 SaysDone (command.Frame n) text = BeginsWith (codes "frame ") text
-SaysDone c text = Unit {0}
+SaysDone c text = text ≢ codes "target\n"
 
 -- a command that sets no breakpoint, chooses no frame and resumes nothing
 abbrev pub IsQuery : Command → Type 0

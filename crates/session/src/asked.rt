@@ -1,6 +1,6 @@
 // A command that doesn't resume, on one side.
 
-ghost use Rattle.std.specs.Prelude.{◌≡◌, ◌≢◌, ◌≤◌, true, false, IfOk, IfErr, OnErr, Option, [], Err};
+ghost use Rattle.std.specs.Prelude.{◌≡◌, ◌≢◌, ◌≤◌, true, false, IfOk, IfErr, OnErr, Option, [], Err, codes};
 ghost use Rattle.std.specs.List.{AllByRecursion};
 ghost use Rattle.abs_mem.specs.WireMeaning.{wire_seen};
 ghost use Rattle.ps_store.specs.Store.{closed_part};
@@ -20,7 +20,7 @@ ghost use Rattle.session.specs.Meant.{IsThere, debugged, SaidOne, NotOne, RanOne
 ghost use Rattle.side_meaning.specs.Standing.{StandsFor};
 ghost use Rattle.side_meaning.specs.Stepping.{IsReady};
 ghost use Rattle.c_session.specs.declared.command.Command.TheVariants.{Ps};
-ghost use Rattle.asking.specs.Lines.{line};
+ghost use Rattle.asking.specs.Lines.{line, BeginsWith};
 ghost use Rattle.claims.specs.Raw.{regs_text};
 
 use crate::sides::{SideRecord, turn};
@@ -80,6 +80,7 @@ pub fn asked_text<L: Link + Drop>(
     text: &[u8],
 ) -> Result<Text, AskFault>
     ensures kept { IsKept side.old side.new }
+    ensures word { IfOk result (λ said. said ≢ codes "target\n") }
     ensures which { side.new.which ≡ side.old.which }
     ensures faults { result ≢ Err AskFault.NoMemory → L.faults talk.old.memory.below.below.below.link ≤ L.faults talk.new.memory.below.below.below.link }
     ensures meant { (b : Behaviour) (h : Host) (beside : Option Host) (a : SideState) → IsThere b L.conduct (L.world talk.old.memory.below.below.below.link) side.old h beside → IsReady (debugged side.old h) a → a.step_words ≡ []
@@ -190,6 +191,7 @@ pub fn registers_of<L: Link + Drop>(
     talk: &mut Operators<Wire<L>>,
     side: &SideRecord,
 ) -> Result<Text, AskFault>
+    ensures word { IfOk result (λ text. BeginsWith (codes "regs ") text) }
     ensures faults { L.faults talk.old.memory.below.below.below.link ≤ L.faults talk.new.memory.below.below.below.link }
     ensures meant { (b : Behaviour) (h : Host) (beside : Option Host) (a : SideState) → IsThere b L.conduct (L.world talk.old.memory.below.below.below.link) side.now h beside → StandsFor (debugged side.now h) a
         → ComesTo (L.faults talk.old.memory.below.below.below.link) (L.faults talk.new.memory.below.below.below.link) (λ text. IsThere b L.conduct (L.world talk.new.memory.below.below.below.link) side.now h beside × (text ≡ line (regs_text a))) (λ e. ⊥) result }

@@ -1,6 +1,6 @@
 // A command that doesn't resume, on both sides.
 
-ghost use Rattle.std.specs.Prelude.{◌≡◌, ◌≢◌, ◌⊎◌, ℕ, List, [], IfOk, IfErr, OnOk, Ok, Err, Option, Some};
+ghost use Rattle.std.specs.Prelude.{◌≡◌, ◌≢◌, ◌⊎◌, ℕ, List, [], codes, IfOk, IfErr, OnOk, Ok, Err, Option, Some};
 ghost use Rattle.session.specs.Kept.{IsFailure, IsKept, IsStoreFault, IsUndone, IsQuery, SaysDone};
 ghost use Rattle.machine_state.specs.State.{Behaviour};
 ghost use Rattle.nub_wire.specs.Nub.{Host};
@@ -8,12 +8,14 @@ ghost use Rattle.c_session.specs.declared.command.Command.TheVariants.{Ps};
 ghost use Rattle.claims.specs.Side.{SessionState, SideState};
 ghost use Rattle.session.specs.Meant.{ComesTo, Hosts, IsThere, AreThere, AreReadyFor, IsLook, IsInquiry, TalksWell, RanOne, SaidAll, NotAll, debugged, sides_of};
 ghost use Rattle.abs_mem.specs.WireMeaning.{memory_of};
+ghost use Rattle.session.specs.Answered.{error_reply};
 ghost use Rattle.session.specs.Counted.{CountsAsk, CountsFault};
 ghost use Rattle.session.specs.Undoing.{words_before, IsGivenUp};
 ghost use Rattle.session.specs.Wanting.{IsAskedAlone, IsText, StandAgain, StaysOne, StoresOne, WithNumbers, WithTable};
 ghost use Rattle.side_meaning.specs.Stepping.{IsReady};
 ghost use Rattle.side_meaning.specs.Sessions.{SidesStand};
 ghost use Rattle.table_asks.specs.Faults.{IsUnbroken};
+ghost use Rattle.asking.specs.Lines.{BeginsWith};
 ghost use Rattle.asking_meaning.specs.Meant.{joined};
 ghost use Rattle.claims.specs.Outcome.{DoneOnBoth, all_regs};
 
@@ -145,6 +147,7 @@ pub fn registers_both<L: Link + Drop>(
     first: &SideRecord,
     second: &SideRecord,
 ) -> Result<Text, AskFault>
+    ensures word { IfOk result (λ text. BeginsWith (codes "regs ") text) }
     ensures meant { (b : Behaviour) (hs : Hosts) (st : SessionState) → AreThere b L.conduct (L.world talk.old.memory.below.below.below.link) first.now (Some second.now) hs → SidesStand (sides_of first.now (Some second.now) hs) st
         → ComesTo (L.faults talk.old.memory.below.below.below.link) (L.faults talk.new.memory.below.below.below.link) (λ text. AreThere b L.conduct (L.world talk.new.memory.below.below.below.link) first.now (Some second.now) hs × (text ≡ joined (all_regs st))) (λ e. ⊥) result }
     ensures wanting { (b : Behaviour) (hs : Hosts) (st : SessionState) → AreThere b L.conduct (L.world talk.old.memory.below.below.below.link) first.now (Some second.now) hs → SidesStand (sides_of first.now (Some second.now) hs) st → result ≡ Err AskFault.NoMemory → AreThere b L.conduct (L.world talk.new.memory.below.below.below.link) first.now (Some second.now) hs }
@@ -175,7 +178,8 @@ struct Sayings {
 
 /// What an assignment may say, or why there is no memory for it.
 fn sayings_for(alloc: Global) -> Result<Sayings, AskFault>
-    ensures { IfErr result (λ fault. fault ≡ AskFault.NoMemory) }
+    ensures err { IfErr result (λ fault. fault ≡ AskFault.NoMemory) }
+    ensures ok { IfOk result (λ said. (said.set ≡ codes "set\n") × (said.outside ≡ error_reply PsError.RangeCheck)) }
 {
     let Ok(set) = Text::from_slice(alloc, b"set\n") else {
         return Err(AskFault::NoMemory);
@@ -190,6 +194,7 @@ fn sayings_for(alloc: Global) -> Result<Sayings, AskFault>
 fn stored(done: Result<(), AskFault>, said: Sayings) -> Result<Text, AskFault>
     ensures count { (f f' : ℕ) → CountsAsk f f' done → CountsAsk f f' result }
     ensures well { (f f' : ℕ) → TalksWell f f' (Unit {0}) done → TalksWell f f' (Unit {0}) result }
+    ensures word { said.set ≢ codes "target\n" → said.outside ≢ codes "target\n" → IfOk result (λ text. text ≢ codes "target\n") }
     ensures whole { IfErr done (λ fault. IsStoreFault fault) → IsUndone result → ⊥ }
 {
     match done {
@@ -203,6 +208,7 @@ fn stored(done: Result<(), AskFault>, said: Sayings) -> Result<Text, AskFault>
 fn stored_on_both(done: Result<(), AskFault>, said: Sayings) -> Result<Text, AskFault>
     ensures count { (f f' : ℕ) → CountsAsk f f' done → CountsAsk f f' result }
     ensures well { (f f' : ℕ) → TalksWell f f' (Unit {0}) done → TalksWell f f' (Unit {0}) result }
+    ensures word { said.set ≢ codes "target\n" → IfOk result (λ text. text ≢ codes "target\n") }
     ensures whole { IfErr done (λ fault. IsStoreFault fault) → IsUndone result → ⊥ }
 {
     match done {
@@ -219,6 +225,7 @@ pub fn assign_one<L: Link + Drop>(
 ) -> Result<Text, AskFault>
     ensures kept { IsKept first.old first.new }
     ensures which { first.new.which ≡ first.old.which }
+    ensures word { IfOk result (λ text. text ≢ codes "target\n") }
     ensures evaluated { (b : Behaviour) (h : Host) (beside : Option Host) → IsThere b L.conduct (L.world talk.old.memory.below.below.below.link) first.old h beside → TalksWell (L.faults talk.old.memory.below.below.below.link) (L.faults talk.new.memory.below.below.below.link) (Unit {0}) result }
     ensures stays { (b : Behaviour) (h : Host) (beside : Option Host) (a : SideState) → IsThere b L.conduct (L.world talk.old.memory.below.below.below.link) first.old h beside → IsReady (debugged first.old h) a → a.step_words ≡ [] → IsUndone result
         → StaysOne b L.conduct (L.world talk.new.memory.below.below.below.link) first.new h beside a }
@@ -245,6 +252,7 @@ fn stored_alone<L: Link + Drop>(
 ) -> Result<Text, AskFault>
     ensures failed { IsFailure fault → (result ≡ Err fault) × (talk.new ≡ talk.old) }
     ensures stores { (b : Behaviour) (h : Host) (beside : Option Host) → (IsFailure fault → ⊥) → IsThere b L.conduct (L.world talk.old.memory.below.below.below.link) first.now h beside → TalksWell (L.faults talk.old.memory.below.below.below.link) (L.faults talk.new.memory.below.below.below.link) (Unit {0}) result }
+    ensures word { said.set ≢ codes "target\n" → said.outside ≢ codes "target\n" → IfOk result (λ text. text ≢ codes "target\n") }
     ensures whole { (IsFailure fault → ⊥) → IsUndone result → ⊥ }
     ensures count { (IsFailure fault → ⊥) → CountsAsk (L.faults talk.old.memory.below.below.below.link) (L.faults talk.new.memory.below.below.below.link) result }
 {
@@ -264,6 +272,7 @@ pub fn assign_both<L: Link + Drop>(
 ) -> Result<Text, AskFault>
     ensures first { IsKept first.old first.new }
     ensures second { IsKept second.old second.new }
+    ensures word { IfOk result (λ text. text ≢ codes "target\n") }
     ensures evaluated { (b : Behaviour) (hs : Hosts) → AreThere b L.conduct (L.world talk.old.memory.below.below.below.link) first.old (Some second.old) hs → TalksWell (L.faults talk.old.memory.below.below.below.link) (L.faults talk.new.memory.below.below.below.link) (Unit {0}) result }
     ensures stays { (b : Behaviour) (hs : Hosts) (st : SessionState) → AreThere b L.conduct (L.world talk.old.memory.below.below.below.link) first.old (Some second.old) hs → AreReadyFor first.old (Some second.old) hs st → IsUndone result
         → StandAgain WithTable b L.conduct (L.world talk.new.memory.below.below.below.link) first.new (Some second.new) st }

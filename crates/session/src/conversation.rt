@@ -26,6 +26,7 @@ ghost use Rattle.debug_side.specs.Told.{MayRun};
 ghost use Rattle.debug_side.specs.Planting.{mem_fault};
 ghost use Rattle.table_asks.specs.Faults.{IsUnbroken};
 ghost use Rattle.abs_mem.specs.declared.memory.MemFault.{MemFault as AbsFault};
+ghost use Rattle.asking.specs.Lines.{BeginsWith};
 ghost use Rattle.asking_meaning.specs.Meant.{joined};
 
 use crate::answers::{Answer, End, StartFault};
@@ -278,8 +279,10 @@ impl<L: Link + Drop> Session<L> {
 
     /// The answer to a command other than `quit`.
     fn obey<O: Sink>(&mut self, command: &Command, out: &mut O) -> Result<Answer, End>
+        ensures ends { result ≡ Ok (Answer.Lines (codes "target\n")) → self.new.mode ≡ Mode.Ended }
         ensures no_quit { IsNoQuit result }
         ensures output { CountsEnd (O.faults out.old) (O.faults out.new) result }
+        ensures leads { O.leads out.old out.new }
         ensures turns { (n : ℕ) → command.now ≡ Turns n → refused_by_state (state_of self.old.mode) command.now ≡ None → ((result ≡ Ok (Answer.Lines (limit_reply n))) × (self.new ≡ record self.old { limit = n })) ⊎ ((result ≡ Ok Answer.NoMemory) × (self.new ≡ self.old)) }
         ensures refused { (u : Refusal) → refused_by_state (state_of self.old.mode) command.now ≡ Some u → Answers (refusal_reply u) result × (self.new ≡ self.old) × (out.new ≡ out.old) }
         ensures no_memory { result ≡ Ok Answer.NoMemory → (self.new.mode ≡ self.old.mode) × (self.new.limit ≡ self.old.limit) × IsKept self.old.first self.new.first × AreKept self.old.second self.new.second × (out.new ≡ out.old) }
@@ -366,6 +369,7 @@ impl<L: Link + Drop> Session<L> {
     fn registers(&mut self) -> Result<Text, AskFault>
         ensures mode { self.new.mode ≡ self.old.mode }
         ensures limit { self.new.limit ≡ self.old.limit }
+        ensures word { IfOk result (λ text. BeginsWith (codes "regs ") text) }
         ensures first { self.new.first ≡ self.old.first }
         ensures meant { (b : Behaviour) (hs : Hosts) (st : SessionState) → AreThere b L.conduct (L.world self.old.talk.memory.below.below.below.link) self.old.first self.old.second hs → SidesStand (sides_of self.old.first self.old.second hs) st
             → ComesTo (L.faults self.old.talk.memory.below.below.below.link) (L.faults self.new.talk.memory.below.below.below.link) (λ text. AreThere b L.conduct (L.world self.new.talk.memory.below.below.below.link) self.new.first self.new.second hs × (text ≡ joined (all_regs st))) (λ e. ⊥) result }
@@ -409,6 +413,7 @@ impl<L: Link + Drop> Session<L> {
     fn assign(&mut self, text: &[u8]) -> Result<Text, AskFault>
         ensures mode { self.new.mode ≡ self.old.mode }
         ensures limit { self.new.limit ≡ self.old.limit }
+        ensures word { IfOk result (λ text. text ≢ codes "target\n") }
         ensures kept { IsKept self.old.first self.new.first × AreKept self.old.second self.new.second }
         ensures raw { self.new.raw ≡ self.old.raw }
         ensures broken { self.new.broken ≡ self.old.broken }
@@ -549,6 +554,7 @@ impl<L: Link + Drop> Session<L> {
     /// Resumes all sides up to their event.
     fn run<O: Sink>(&mut self, out: &mut O) -> Result<Event, RunFault>
         ensures output { CountsOutput (O.faults out.old) (O.faults out.new) result }
+        ensures leads { O.leads out.old out.new }
         ensures mode { self.new.mode ≡ self.old.mode }
         ensures behind { IfOk result (λ all. AllBehind (event_on self.old.first all) self.old.first self.new.first self.old.second self.new.second) }
         ensures limit { self.new.limit ≡ self.old.limit }
@@ -571,6 +577,7 @@ impl<L: Link + Drop> Session<L> {
         ensures no_quit { IsNoQuit result }
         ensures resumes { Resumes (out.new ≡ out.old) (resume_of how) self.old.mode self.new.mode self.old.first self.new.first self.old.second self.new.second self.old.broken result }
         ensures output { CountsEnd (O.faults out.old) (O.faults out.new) result }
+        ensures leads { O.leads out.old out.new }
         ensures no_memory { result ≡ Ok Answer.NoMemory → (self.new.mode ≡ self.old.mode) × (self.new.limit ≡ self.old.limit) × IsKept self.old.first self.new.first × AreKept self.old.second self.new.second × (out.new ≡ out.old) }
         ensures out_fault { OnErr result (self.new.mode ≡ Mode.Ended) }
         ensures limit { self.new.limit ≡ self.old.limit }

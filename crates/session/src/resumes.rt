@@ -31,6 +31,7 @@ fn resumed<L: Link + Drop, O: Sink>(
     out: &mut O,
 ) -> Result<Event, RunFault>
     ensures output { CountsOutput (O.faults out.old) (O.faults out.new) result }
+    ensures leads { O.leads out.old out.new }
     ensures came { IfOk result (λ event. Came event side.old side.new) }
     ensures stay { side.new.row.words_stay ≡ side.old.row.words_stay }
     ensures other { side.new ≡ record side.old { row = side.new.row } }
@@ -68,6 +69,7 @@ pub fn resumed_one<L: Link + Drop, O: Sink>(
     out: &mut O,
 ) -> Result<Event, RunFault>
     ensures output { CountsOutput (O.faults out.old) (O.faults out.new) result }
+    ensures leads { O.leads out.old out.new }
     ensures behind { IfOk result (λ all. OneBehind (event_on first.old all) first.old first.new) }
     ensures meant { (b : Behaviour) (hs : Hosts) → AreSteady b → AreThere b L.conduct (L.world talk.old.memory.below.below.below.link) first.old None hs → MayRun first.old.row.kept hs.first
         → ResumesAll b L.conduct (L.world talk.new.memory.below.below.below.link) first.old first.new None None hs limit (L.faults talk.old.memory.below.below.below.link) (L.faults talk.new.memory.below.below.below.link) (O.taken out.old) (O.taken out.new) result }
@@ -91,6 +93,7 @@ pub fn resumed_both<L: Link + Drop, O: Sink>(
     out: &mut O,
 ) -> Result<Event, RunFault>
     ensures output { CountsOutput (O.faults out.old) (O.faults out.new) result }
+    ensures leads { O.leads out.old out.new }
     ensures behind { IfOk result (λ all. BothBehind (event_on first.old all) first.old first.new second.old second.new) }
     ensures meant { (b : Behaviour) (hs : Hosts) → AreSteady b → AreThere b L.conduct (L.world talk.old.memory.below.below.below.link) first.old (Some second.old) hs → MayRun first.old.row.kept hs.first → MayAlsoRun (Some second.old) hs.second
         → ResumesAll b L.conduct (L.world talk.new.memory.below.below.below.link) first.old first.new (Some second.old) (Some second.new) hs limit (L.faults talk.old.memory.below.below.below.link) (L.faults talk.new.memory.below.below.below.link) (O.taken out.old) (O.taken out.new) result }

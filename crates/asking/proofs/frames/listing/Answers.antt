@@ -1,4 +1,4 @@
-use Rattle.std.proofs.Common.{◌≡◌, ◌∙◌, refl, sym, subst, arith, ℕ, List, Ok, Err}
+use Rattle.std.proofs.Common.{◌≡◌, ◌∙◌, refl, sym, subst, arith, ℕ, List, ◌∷◌, ◌++◌, codes, decimal, append_assoc, Ok, Err}
 use Rattle.ps_store.specs.StoreState.{StoreState}
 use Rattle.frame_bytes.specs.Bytes.{Bytes}
 use Rattle.table_model.specs.declared.row.TargetRow.{TargetRow}
@@ -121,3 +121,7 @@ returns-in-Err-settle_walk-clause-calls g c =
     let is : c.in-Err-Walk.field-0 ≡ list.Walk c.in-Err-Walk.fault = cc in
     let led_so = subst (λ (x : ListFault). LedList g.W.AbsMem.leads a.m (Err x) c.list_frames.new.m) is c.in-Err-Walk.ensures.calls in
     led_fails Listed (List ℕ) g.W.AbsMem.leads m a.m c.list_frames.new.m (g.met.W.AbsMem.goes_on m a.m c.list_frames.new.m) a.invariant.led c.in-Err-Walk.fault c.in-Err-settle_walk.fault a.inquiry c.settle_walk.new.inquiry led_so c.in-Err-settle_walk.ensures.settles
+
+pub returns-in-Ok-frames_text-clause-word : goal.returns-in-Ok-frames_text-clause-word
+returns-in-Ok-frames_text-clause-word g c =
+    (decimal c.in-Ok.all.count ++ (10 ∷ c.in-Ok.all.lines), c.in-Ok-frames_text.ensures ∙ append_assoc (codes "frames ") (decimal c.in-Ok.all.count) (10 ∷ c.in-Ok.all.lines))

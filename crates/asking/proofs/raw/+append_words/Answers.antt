@@ -1,4 +1,4 @@
-use Rattle.std.proofs.Common.{◌≡◌, ◌≢◌, sym, subst, ℕ, ◌+◌, ◌-◌, ◌*◌, arith, List, ◌++◌, codes, Err}
+use Rattle.std.proofs.Common.{◌≡◌, ◌≢◌, sym, subst, ℕ, ◌+◌, ◌-◌, ◌*◌, arith, List, ◌++◌, codes, Result, Ok, Err, OnOk}
 use Rattle.ldb_words.specs.Word.{sum_of}
 use Rattle.ldb_words.specs.declared.kinds.Kind.TheVariants.{Word}
 use Rattle.abs_mem.proofs.Walks.{same_here}
@@ -10,6 +10,7 @@ use Rattle.table_read.specs.Reads.{in_ok}
 use Rattle.asking.specs.Doing.{Asks}
 use Rattle.asking.specs.Raw.{words_behind}
 use Rattle.asking.proofs.Asked.{asks_then, asks_fails, led_fault, led_then, words_outside, words_further, no_words}
+use Rattle.asking.proofs.Begun.{begins_on, begins_same}
 use Rattle.asking.proofs.raw.+append_words.Goals as goal
 
 pub returns-then-count-eq0-clause-meaning : goal.returns-then-count-eq0-clause-meaning
@@ -58,3 +59,14 @@ returns-in-Ok-append_word-clause-meaning g n c =
 pub returns-in-Ok-append_word-clause-calls : goal.returns-in-Ok-append_word-clause-calls
 returns-in-Ok-append_word-clause-calls g n c =
     led_then g.M.AbsMem.leads c.args.m.now c.fetch.new.self c.append_words.new.m c.append_words.result (g.met.M.AbsMem.goes_on c.args.m.now c.fetch.new.self c.append_words.new.m) c.in-Ok.ensures.calls c.append_words.ensures.calls
+
+pub returns-then-count-eq0-clause-front : goal.returns-then-count-eq0-clause-front
+returns-then-count-eq0-clause-front g n c = begins_same c.args.out.now
+
+pub returns-in-Ok-append_word-clause-front : goal.returns-in-Ok-append_word-clause-front
+returns-in-Ok-append_word-clause-front g n c =
+    further c.append_words.result (λ w. begins_on c.args.out.now c.append_word.new.out c.append_words.new.out (codes " " ++ hex_text 8 c.in-Ok.word, c.in-Ok-append_word.ensures) w) c.append_words.ensures.front
+  where
+    further : {A E P Q : Type 0} (r : Result A E) → (P → Q) → OnOk r P → OnOk r Q
+    further (Ok x) k p = k p
+    further (Err e) k p = tt

@@ -1,9 +1,10 @@
-use Rattle.std.proofs.Common.{◌≡◌, refl, sym, subst, ℕ, List, [], ◌∷◌, ◌++◌, codes, Ok, Err}
+use Rattle.std.proofs.Common.{◌≡◌, ◌∙◌, refl, sym, subst, ℕ, List, [], ◌∷◌, ◌++◌, codes, Ok, Err}
 use Rattle.abs_mem.proofs.Walks.{same_here}
-use Rattle.asking.specs.Lines.{target_text}
+use Rattle.asking.specs.Lines.{target_text, BeginsWith}
 use Rattle.asking.specs.Doing.{Asks}
 use Rattle.asking.specs.Raw.{words_behind, regs_line}
 use Rattle.asking.proofs.Asked.{asks_ok, asks_err, led_as, regs_told, regs_untold}
+use Rattle.asking.proofs.Begun.{begins_more, begins_on}
 use Rattle.asking.proofs.raw.registers.Goals as goal
 
 pub returns-in_default-clause-meaning : goal.returns-in_default-clause-meaning
@@ -57,3 +58,11 @@ returns-in-Err-append-clause-calls g c = c.in-Ok-append_words.ensures.calls
 
 pub returns-in-Err-append-clause-kept : goal.returns-in-Err-append-clause-kept
 returns-in-Err-append-clause-kept g c = refl
+
+pub returns-in-Ok-append-clause-word : goal.returns-in-Ok-append-clause-word
+returns-in-Ok-append-clause-word g c =
+    let target = c.args.talk.now.view.target in
+    let words = c.append_words.new.out in
+    let head : BeginsWith (codes "regs ") c.in-Ok.out = (target_text target, c.in-Ok.ensures) in
+    let w = begins_more (codes "regs ") words (10 ∷ []) (begins_on (codes "regs ") c.in-Ok.out words head c.in-Ok-append_words.ensures.front) in
+    (w.0, c.in-Ok-append.ensures.ok ∙ w.1)

@@ -1,10 +1,11 @@
-use Rattle.std.proofs.Common.{◌≡◌, refl, sym, subst, ℕ, List, None, Ok, Err}
+use Rattle.std.proofs.Common.{◌≡◌, refl, sym, subst, ℕ, List, reverse, codes, None, Ok, Err}
 use Rattle.ps_ops.specs.declared.dialect.Operators.{Operators}
 use Rattle.table_asks.specs.declared.fault.AskFault.{AskFault}
 use Rattle.table_asks.specs.declared.fault.AskFault.TheVariants.{NoMemory}
 use Rattle.table_asks.specs.Asking.{left_of}
 use Rattle.table_asks.specs.Running.{RanOver, IsLed}
-use Rattle.asking.specs.Raw.{PsOver}
+use Rattle.asking.specs.Raw.{PsOver, operand_texts}
+use Rattle.asking.proofs.Begun.{line_begins}
 use Rattle.asking.proofs.Ps.{begin_fails, string_fails, text_done, text_wants, text_fails}
 use Rattle.asking.proofs.Ran.{ran_own, ran_as}
 use Rattle.asking.proofs.raw.running_text.Goals as goal
@@ -96,3 +97,8 @@ returns-in-Err-run_object-clause-calls g c =
     let after = c.run_object.new.talk.memory.below.below.below in
     ran_as seen leads c.args.talk.now.memory.below.below.below (Unit {0}) (List ℕ) c.in-Err-run_object.fault after
     (subst (λ (o : Operators g.row.W.Denot). RanOver seen leads {A = Unit {0}} o.memory.below.below.below (Err c.in-Err-run_object.fault) after) c.begin_talk.ensures c.in-Err-run_object.ensures.calls)
+
+pub returns-in-Ok-operands_text-clause-word : goal.returns-in-Ok-operands_text-clause-word
+returns-in-Ok-operands_text-clause-word g c =
+    let core = c.run_object.new.inquiry.core in
+    line_begins (codes "ps") (operand_texts core.store (reverse core.operands)) _ c.in-Ok-operands_text.ensures

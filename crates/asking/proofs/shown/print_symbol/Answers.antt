@@ -1,4 +1,4 @@
-use Rattle.std.proofs.Common.{ℕ, List, Err}
+use Rattle.std.proofs.Common.{ℕ, List, [], ◌∷◌, ◌++◌, Err}
 use Rattle.asking.proofs.Ran.{ran_as, ran_unbroken, led_further, ran_then}
 use Rattle.asking.proofs.Printed.{type_fails, unplaced, unshown, unworded, shown_done}
 use Rattle.asking.proofs.shown.print_symbol.Goals as goal
@@ -51,3 +51,6 @@ returns-in-Err-value_text-clause-meaning g c =
 pub returns-in-Err-show-clause-meaning : goal.returns-in-Err-show-clause-meaning
 returns-in-Err-show-clause-meaning g c =
     unshown g.W.AbsMem.seen c.args.symbol c.args.frame c.args.scope c.args.inquiry.now c.args.talk.now c.in-Ok.ctype c.in-Ok.ensures.meaning c.place.new.inquiry c.show.new.inquiry c.place.new.talk c.show.new.talk c.in-Ok-place.ensures.meaning c.in-Err-show.fault c.in-Err-show.ensures.meaning
+
+pub returns-in-Ok-value_text-clause-word : goal.returns-in-Ok-value_text-clause-word
+returns-in-Ok-value_text-clause-word g c = (c.show.new.talk.out ++ (10 ∷ []), c.in-Ok-value_text.ensures)

@@ -73,3 +73,11 @@ returns-in-Ok-run_to_event-clause-told g c = λ (b : Behaviour) (h : Host) (besi
     run_came b g.L.Link.conduct c.args.wire.now.side beside c.args.row.now.kept c.args.row.now c.args.limit h there c.event_by-event.result c.in-Ok-run_to_event.ending
     (g.L.Link.world c.run_to_event.new.link) c.pass_no_op.new.m.order (g.S.Sink.taken c.args.out.now) (g.S.Sink.taken c.run_to_event.new.out) c.in-None.is c.event_by-event.ensures p.order_is p.keeps
     (subst (λ (s : Side). RunTold b g.L.Link.conduct s c.args.limit there beside (Ok c.in-Ok-run_to_event.ending) (g.L.Link.world c.run_to_event.new.link) (g.S.Sink.taken c.args.out.now) (g.S.Sink.taken c.run_to_event.new.out)) led told)
+
+-- ---- what the writes leave
+
+pub returns-in-Some-clause-leads : goal.returns-in-Some-clause-leads
+returns-in-Some-clause-leads g c = g.met.S.Sink.stays c.args.out.now
+
+pub returns-in-Err-clause-leads : goal.returns-in-Err-clause-leads
+returns-in-Err-clause-leads g c = g.met.S.Sink.stays c.args.out.now

@@ -30,6 +30,7 @@ messages-init g c =
           (ap (λ (r : Resuming). r.printed) c.in-Ok.ensures.calls.0) c.in-Ok.ensures.told;
       faults = c.in-Ok.ensures.cause;
       out_faults = refl;
+      led = g.met.S.Sink.stays c.args.out.now;
     }
 
 pub returns-in-Err-next-clause-told : goal.returns-in-Err-next-clause-told
@@ -69,6 +70,7 @@ messages-preserved g c =
           (g.S.Sink.taken c.args.out.now) (g.S.Sink.taken c.messages.out) x.conduct i.turns (i.told b h beside x none) c.in-Ok-next.ensures.fits c.in-Ok-next.ensures.told) put;
       faults = c.in-Ok-next.ensures.cause ∙ i.faults;
       out_faults = still ∙ i.out_faults;
+      led = g.met.S.Sink.goes_on c.args.out.now c.messages.out c.put.new.sink i.led c.put.ensures.leads;
     }
 
 pub returns-in-End-clause-told : goal.returns-in-End-clause-told
@@ -79,3 +81,11 @@ returns-in-End-clause-told g c =
     (g.S.Sink.taken c.args.out.now) (g.S.Sink.taken c.messages.out) x.conduct c.messages.invariant.turns (c.messages.invariant.told b h beside x none) c.in-Ok-next.ensures.fits c.in-Ok-next.ensures.told in
     ends_told b g.L.Link.conduct c.args.side c.args.turns (g.L.Link.world c.args.link.now) h beside x none small c.next.new.self.printed c.in-Ok-next.message c.in-End.ending (g.L.Link.world c.next.new.link)
     (g.S.Sink.taken c.args.out.now) (g.S.Sink.taken c.messages.out) c.in-End.ensures came
+
+-- ---- what the writes leave
+
+pub returns-in-Err-clause-leads : goal.returns-in-Err-clause-leads
+returns-in-Err-clause-leads g c = g.met.S.Sink.stays c.args.out.now
+
+pub returns-then-is_err-clause-leads : goal.returns-then-is_err-clause-leads
+returns-then-is_err-clause-leads g c = g.met.S.Sink.goes_on c.args.out.now c.messages.out c.put.new.sink c.messages.invariant.led c.put.ensures.leads

@@ -16,6 +16,7 @@ invariant-messages g l = record {
       → SoFar b l.side l.turns x.now x.world l.resumption.printed (g.L.Link.world l.link) (g.S.Sink.taken l.fn.out) (g.S.Sink.taken l.out);
   faults : g.L.Link.faults l.link ≡ g.L.Link.faults l.fn.link;
   out_faults : g.S.Sink.faults l.out ≡ g.S.Sink.faults l.fn.out;
+  led : g.S.Sink.leads l.fn.out l.out;
 }
 
 abbrev pub decreases-messages : goal.decreases-messages

@@ -1,4 +1,4 @@
-use Rattle.std.proofs.Common.{◌≡◌, ◌<◌, take, drop, sym, ap, ◌∙◌, arith, length-drop, Result, Ok, Err, OnErr}
+use Rattle.std.proofs.Common.{rules, refl, ◌≡◌, ◌<◌, take, drop, sym, ap, ◌∙◌, arith, length-drop, Result, Ok, Err, OnErr}
 use Rattle.std.proofs.lemmas.List.{take_rest}
 use Rattle.ldb_edge.specs.Known.{known_and}
 use Rattle.resuming.proofs.Taken.{known_more, known_none, taken_front}
@@ -34,4 +34,19 @@ loop-done-preserved g c =
       front = said ∙ ap (λ k. known_and k (take count (drop done bytes))) c.loop-done.invariant.front ∙ known_more known done count bytes;
       within = omega (arith, length-drop done bytes, bound);
       counts = c.in_ok-count.ensures.cause.some some ∙ c.loop-done.invariant.counts;
+      led = g.met.S.Sink.goes_on c.args.sink.now c.loop-done.sink c.write.new.self c.loop-done.invariant.led c.in_ok-count.ensures.leads;
     }
+
+pub returns-in_err-count-clause-leads : goal.returns-in_err-count-clause-leads
+returns-in_err-count-clause-leads g c = g.met.S.Sink.goes_on c.args.sink.now c.loop-done.sink c.write.new.self c.loop-done.invariant.led c.in_err-count.ensures.leads
+
+pub returns-then-count-eq0-clause-leads : goal.returns-then-count-eq0-clause-leads
+returns-then-count-eq0-clause-leads g c = g.met.S.Sink.goes_on c.args.sink.now c.loop-done.sink c.write.new.self c.loop-done.invariant.led c.in_ok-count.ensures.leads
+
+pub loop-done-init : goal.loop-done-init
+loop-done-init g c = record {
+  front = search rules;
+  within = search rules;
+  counts = refl;
+  led = g.met.S.Sink.stays c.args.sink.now;
+}

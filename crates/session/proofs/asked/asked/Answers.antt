@@ -1,4 +1,4 @@
-use Rattle.std.proofs.Common.{◌≡◌, ◌∙◌, ap, subst, sym, Ok, Err, refl}
+use Rattle.std.proofs.Common.{◌≡◌, ◌∙◌, ap, subst, sym, Ok, Err, IfOk, refl}
 use Rattle.abs_mem.specs.WireMeaning.{WireLeads}
 use Rattle.c_session.specs.declared.command.Command.{Command}
 use Rattle.c_session.specs.declared.command.Command.TheVariants.{Ps}
@@ -7,6 +7,7 @@ use Rattle.table_asks.specs.declared.inquiry.Inquiry.{Inquiry}
 use Rattle.session.specs.Meant.{IsBare, IsLook, SaidOne, NotOne, ComesTo}
 use Rattle.ps_store.specs.StoreState.{StoreState}
 use Rattle.session.specs.declared.sides.SideRecord.{SideRecord}
+use Rattle.session.specs.Kept.{SaysDone}
 use Rattle.session.specs.Wanting.{IsAskedAlone, TableStays}
 use Rattle.session.proofs.Asking.{undone_meant, done_meant, count_of, count_unless, rests_wanting, plain_of}
 use Rattle.session.proofs.Wanting.{same_table, table_stays, text_is}
@@ -163,3 +164,6 @@ returns-in-Err-said-clause-stores g c = λ b h beside a there ready none is unbr
 
 pub returns-in-Ok-said-clause-stores : goal.returns-in-Ok-said-clause-stores
 returns-in-Ok-said-clause-stores g c = λ b h beside a there ready none is unbroken. absurd (text_is c.args.command.now is (λ text. c.in_default.not-Ps text))
+
+pub returns-in-Ps-clause-word : goal.returns-in-Ps-clause-word
+returns-in-Ps-clause-word g c = subst (λ (d : Command). IfOk c.asked_text.result (λ text. SaysDone d text)) (sym c.in-Ps.is) c.asked_text.ensures.word

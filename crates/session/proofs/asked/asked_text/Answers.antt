@@ -3,6 +3,7 @@ use Rattle.abs_mem.specs.WireMeaning.{WireLeads}
 use Rattle.table_asks.specs.declared.inquiry.Inquiry.{Inquiry}
 use Rattle.session.specs.Wanting.{TableStays}
 use Rattle.session.proofs.AskingText.{text_meant, text_count}
+use Rattle.session.proofs.Ending.{ps_else}
 use Rattle.session.proofs.Looked.{text_counts, unasked_there}
 use Rattle.session.proofs.Storing.{none_stores, text_stored}
 use Rattle.session.proofs.Wanting.{same_table, table_stays}
@@ -34,3 +35,6 @@ returns-clause-stores g c = λ b h beside a there ready none unbroken.
     text_stored g.L.Link.conduct g.L.Link.world g.L.Link.faults b c.args.side.now c.args.talk.now c.turn.new.talk c.running_text-said.new.talk c.args.text.now c.begin_command.new.inquiry c.running_text-said.new.inquiry c.turn.ensures c.in-Ok.ensures.store h beside there a ready none c.end_command.new.inquiry
     (table_stays c.args.side.now.inquiry.core.store c.begin_command.new.inquiry.core.store c.running_text-said.new.inquiry.core.store c.end_command.new.inquiry.core.store c.in-Ok.mark c.in-Ok.ensures.store c.in-Ok.ensures.there c.running_text-said.ensures.closed c.end_command.ensures.store)
     c.running_text-said.result unbroken c.running_text-said.ensures.meaning
+
+pub returns-clause-word : goal.returns-clause-word
+returns-clause-word g c = ps_else c.running_text-said.result c.running_text-said.ensures.word

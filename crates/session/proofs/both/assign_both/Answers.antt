@@ -1,5 +1,6 @@
 use Rattle.std.proofs.Common.{◌∙◌, refl, ap, sym, subst, ℕ, List, Option, Some, Result, Err}
 use Rattle.nub_wire.specs.Nub.{Host}
+use Rattle.ps_step.specs.declared.fault.PsError.TheVariants.{RangeCheck}
 use Rattle.table_asks.specs.declared.fault.AskFault.{AskFault}
 use Rattle.session.specs.Counted.{CountsAsk, CountsFault}
 use Rattle.claims.specs.Side.{SessionState}
@@ -11,14 +12,15 @@ use Rattle.session.proofs.Counting.{fault_on, counts_on}
 use Rattle.session.proofs.Beside.{second_beside, first_beside}
 use Rattle.session.proofs.AskingBoth.{failure_or}
 use Rattle.session.proofs.Looked.{stays_well, only_well, fails_on, well_on, well_there, undone_there, with_second_there, counts_same, unset_counts, unset_well}
+use Rattle.session.proofs.Ending.{set_else, outside_else}
 use Rattle.session.proofs.Wanting.{stands_same, first_wanted, second_asked, side_stays}
 use Rattle.session.proofs.both.assign_both.Goals as goal
 
 pub returns-in-Err-clause-count : goal.returns-in-Err-clause-count
-returns-in-Err-clause-count g c = unset_counts (g.L.Link.faults c.args.talk.now.memory.below.below.below.link) c.in-Err.fault c.in-Err.ensures
+returns-in-Err-clause-count g c = unset_counts (g.L.Link.faults c.args.talk.now.memory.below.below.below.link) c.in-Err.fault c.in-Err.ensures.err
 
 pub returns-in-Err-clause-evaluated : goal.returns-in-Err-clause-evaluated
-returns-in-Err-clause-evaluated g c = λ b hs there. unset_well (g.L.Link.faults c.args.talk.now.memory.below.below.below.link) c.in-Err.fault c.in-Err.ensures
+returns-in-Err-clause-evaluated g c = λ b hs there. unset_well (g.L.Link.faults c.args.talk.now.memory.below.below.below.link) c.in-Err.fault c.in-Err.ensures.err
 
 pub returns-in-Err-mine-clause-evaluated : goal.returns-in-Err-mine-clause-evaluated
 returns-in-Err-mine-clause-evaluated g c = λ b hs there. only_well (g.L.Link.faults c.args.talk.now.memory.below.below.below.link) (g.L.Link.faults c.assigned-mine.new.talk.memory.below.below.below.link) _ c.in-Err-mine.fault (c.in-Err-mine.ensures.evaluated b hs.first hs.second there.first_there)
@@ -146,3 +148,14 @@ returns-clause-stays g c = λ b hs st there ready u. absurd (c.stored.ensures.wh
 
 pub returns-in-Ok-here-clause-stays : goal.returns-in-Ok-here-clause-stays
 returns-in-Ok-here-clause-stays g c = λ b hs st there ready u. absurd (c.stored_on_both.ensures.whole c.store.ensures.last u)
+
+-- ---- what it says
+
+pub returns-in-Err-more-clause-word : goal.returns-in-Err-more-clause-word
+returns-in-Err-more-clause-word g c = c.stored_alone.ensures.word (set_else c.in-Ok.said.set c.in-Ok.ensures.ok.0) (outside_else RangeCheck c.in-Ok.said.outside c.in-Ok.ensures.ok.1)
+
+pub returns-in-Ok-here-clause-word : goal.returns-in-Ok-here-clause-word
+returns-in-Ok-here-clause-word g c = c.stored_on_both.ensures.word (set_else c.in-Ok.said.set c.in-Ok.ensures.ok.0)
+
+pub returns-clause-word : goal.returns-clause-word
+returns-clause-word g c = c.stored.ensures.word (set_else c.in-Ok.said.set c.in-Ok.ensures.ok.0) (outside_else RangeCheck c.in-Ok.said.outside c.in-Ok.ensures.ok.1)

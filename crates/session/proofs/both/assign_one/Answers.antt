@@ -1,18 +1,20 @@
 use Rattle.std.proofs.Common.{◌∙◌, ℕ, List, sym, subst, Err}
+use Rattle.ps_step.specs.declared.fault.PsError.TheVariants.{RangeCheck}
 use Rattle.table_asks.specs.declared.fault.AskFault.{AskFault}
 use Rattle.session.specs.Counted.{CountsFault}
 use Rattle.session.specs.Meant.{TalksWell}
 use Rattle.session.proofs.Counting.{counts_on}
 use Rattle.session.specs.Meant.{debugged}
 use Rattle.session.proofs.Wanting.{ran_same, side_stays}
+use Rattle.session.proofs.Ending.{set_else, outside_else}
 use Rattle.session.proofs.Looked.{stays_well, only_well, well_on, undone_there, unset_counts, unset_well}
 use Rattle.session.proofs.both.assign_one.Goals as goal
 
 pub returns-in-Err-clause-count : goal.returns-in-Err-clause-count
-returns-in-Err-clause-count g c = unset_counts (g.L.Link.faults c.args.talk.now.memory.below.below.below.link) c.in-Err.fault c.in-Err.ensures
+returns-in-Err-clause-count g c = unset_counts (g.L.Link.faults c.args.talk.now.memory.below.below.below.link) c.in-Err.fault c.in-Err.ensures.err
 
 pub returns-in-Err-clause-evaluated : goal.returns-in-Err-clause-evaluated
-returns-in-Err-clause-evaluated g c = λ b h beside there. unset_well (g.L.Link.faults c.args.talk.now.memory.below.below.below.link) c.in-Err.fault c.in-Err.ensures
+returns-in-Err-clause-evaluated g c = λ b h beside there. unset_well (g.L.Link.faults c.args.talk.now.memory.below.below.below.link) c.in-Err.fault c.in-Err.ensures.err
 
 pub returns-in-Ok-assigned-clause-count : goal.returns-in-Ok-assigned-clause-count
 returns-in-Ok-assigned-clause-count g c = counts_on (g.L.Link.faults c.args.talk.now.memory.below.below.below.link) (g.L.Link.faults c.assigned.new.talk.memory.below.below.below.link) (g.L.Link.faults c.store.new.talk.memory.below.below.below.link) c.stored.result c.in-Ok-assigned.ensures.count (c.stored.ensures.count (g.L.Link.faults c.assigned.new.talk.memory.below.below.below.link) (g.L.Link.faults c.store.new.talk.memory.below.below.below.link) c.store.ensures.count)
@@ -36,3 +38,6 @@ returns-in-Err-assigned-clause-stays g c = λ b h beside a there ready none u.
 
 pub returns-in-Err-clause-stays : goal.returns-in-Err-clause-stays
 returns-in-Err-clause-stays g c = λ b h beside a there ready none u. record { there = there; ran = ran_same (debugged c.args.first.now h) a ready.stands }
+
+pub returns-in-Ok-assigned-clause-word : goal.returns-in-Ok-assigned-clause-word
+returns-in-Ok-assigned-clause-word g c = c.stored.ensures.word (set_else c.in-Ok.said.set c.in-Ok.ensures.ok.0) (outside_else RangeCheck c.in-Ok.said.outside c.in-Ok.ensures.ok.1)

@@ -1,4 +1,4 @@
-use Rattle.std.proofs.Common.{◌∙◌, ap, sym, subst, ◌++◌, Option, Some}
+use Rattle.std.proofs.Common.{◌∙◌, ap, sym, subst, ℕ, List, ◌++◌, codes, append_assoc, Option, Some}
 use Rattle.nub_wire.specs.Nub.{Host}
 use Rattle.session.specs.Meant.{AreThere}
 use Rattle.session.proofs.AskingBoth.{still_there}
@@ -67,3 +67,9 @@ returns-in-Err-more-clause-count g c = fault_on (g.L.Link.faults c.args.talk.now
 
 pub returns-in-Ok-append-clause-count : goal.returns-in-Ok-append-clause-count
 returns-in-Ok-append-clause-count g c = c.in-Ok-more.ensures.count ∙ c.in-Ok.ensures.count
+
+pub returns-in-Ok-append-clause-word : goal.returns-in-Ok-append-clause-word
+returns-in-Ok-append-clause-word g c =
+    let w = c.in-Ok.ensures.word in
+    let more = c.as_bytes.result.now in
+    (w.0 ++ more, c.in-Ok-append.ensures.ok ∙ (ap (λ (t : List ℕ). t ++ more) w.1 ∙ append_assoc (codes "regs ") w.0 more))

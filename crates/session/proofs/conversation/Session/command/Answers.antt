@@ -3,16 +3,18 @@ use Rattle.machine_state.specs.State.{Behaviour}
 use Rattle.c_session.specs.declared.command.Command.{Command}
 use Rattle.c_session.specs.Commands.{BadLine, refusal_text}
 use Rattle.cmd_lang.specs.Commands.{read_of}
+use Rattle.cmd_lang.specs.Words.{is_empty}
 use Rattle.claims.specs.Side.{SessionState}
 use Rattle.c_session.specs.declared.command.Command.TheVariants.{Continue, Step, Quit}
 use Rattle.claims.specs.Outcome.{refused_by_state}
-use Rattle.session.specs.Answered.{state_of, refusal_reply, Replies}
+use Rattle.session.specs.Answered.{state_of, refusal_reply, line_reply, Replies}
 use Rattle.session.specs.Kept.{IsQuery}
 use Rattle.session.specs.Meant.{Hosts, AnswersAs, MeantAnswers, IsSaidIfAny}
 use Rattle.session.specs.Wanting.{LeavesIfAny, RepresentsAgain}
 use Rattle.session.proofs.Tallying.{same_counts}
 use Rattle.session.proofs.Wanting.{represents_same, same_leaves_if_any}
 use Rattle.session.proofs.Answering.{refuses}
+use Rattle.session.proofs.Ending.{answers_else, line_else}
 use Rattle.session.proofs.conversation.Session.command.Goals as goal
 
 pub returns-in-Ok : goal.returns-in-Ok
@@ -53,6 +55,8 @@ returns-in-Ok g c = record {
   count = c.obey.ensures.count;
   broken = c.obey.ensures.broken;
   raw = c.obey.ensures.raw;
+  ends = λ whole is. c.obey.ensures.ends is;
+  leads = c.obey.ensures.leads;
 }
 
 pub returns-in-Err-Line-clause-meant : goal.returns-in-Err-Line-clause-meant
@@ -77,3 +81,18 @@ pub returns-in-Err-NoMemory-clause-stays : goal.returns-in-Err-NoMemory-clause-s
 returns-in-Err-NoMemory-clause-stays g c = λ b hs st x is.
     let now = c.args.self.now in
     represents_same (LeavesIfAny (read_of now.raw c.args.line.now)) (λ a. same_leaves_if_any (read_of now.raw c.args.line.now) a) b g.L.Link.conduct (g.L.Link.world now.talk.memory.below.below.below.link) now.first now.second now.mode now.limit hs st x
+
+-- ---- what the writes leave, and what ends the session
+
+pub returns-in-Err-Line-clause-leads : goal.returns-in-Err-Line-clause-leads
+returns-in-Err-Line-clause-leads g c = g.met.O.Sink.stays c.args.out.now
+
+pub returns-in-Err-NoMemory-clause-leads : goal.returns-in-Err-NoMemory-clause-leads
+returns-in-Err-NoMemory-clause-leads g c = g.met.O.Sink.stays c.args.out.now
+
+pub returns-in-Ok-Quit-clause-leads : goal.returns-in-Ok-Quit-clause-leads
+returns-in-Ok-Quit-clause-leads g c = g.met.O.Sink.stays c.args.out.now
+
+pub returns-in-Err-Line-clause-ends : goal.returns-in-Err-Line-clause-ends
+returns-in-Err-Line-clause-ends g c = λ whole is.
+    absurd (answers_else (line_reply c.args.line.now) (Ok c.malformed.result) c.malformed.ensures.reply (line_else (is_empty c.args.line.now)) is)

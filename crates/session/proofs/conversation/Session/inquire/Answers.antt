@@ -1,4 +1,4 @@
-use Rattle.std.proofs.Common.{rules, ◌≡◌, sym, subst, ℕ, List, None}
+use Rattle.std.proofs.Common.{rules, ◌≡◌, sym, subst, ℕ, List, None, IfOk}
 use Rattle.machine_state.specs.State.{Behaviour}
 use Rattle.c_session.specs.declared.command.Command.{Command}
 use Rattle.c_session.specs.declared.command.Command.TheVariants as command
@@ -7,7 +7,9 @@ use Rattle.claims.specs.Outcome.{DoneOnBoth, AnswersCommand, refused_by_state}
 use Rattle.side_meaning.specs.Sessions.{SidesStand}
 use Rattle.session.specs.Meant.{Hosts, AreThere, sides_of, ComesTo, SaidAll, NotAll, IsExpression}
 use Rattle.session.specs.Wanting.{WithTable, WithNumbers, Leaves}
+use Rattle.session.specs.Kept.{SaysDone}
 use Rattle.session.proofs.Counting.{counts_on}
+use Rattle.session.proofs.Ending.{regs_else}
 use Rattle.session.proofs.Wanting.{stands_same, same_leaves, again_as, table_leaves, numbers_leave}
 use Rattle.session.proofs.Looked.{well_on, undone_as, undone_regs, unit_well}
 use Rattle.session.proofs.Tallying.{alone_still, inquired_or, text_inquiry, expression_still, expression_look}
@@ -114,3 +116,11 @@ returns-in-Err-clause-stays g c = λ b hs st x e runs u. absurd (c.in-Err.ensure
 
 pub returns-in-Err-clause-evaluated : goal.returns-in-Err-clause-evaluated
 returns-in-Err-clause-evaluated g c = λ b hs st x e expression. unit_well (Unit {0}) (g.L.Link.faults c.args.self.now.talk.memory.below.below.below.link) (g.L.Link.faults c.settle.new.self.talk.memory.below.below.below.link) c.in-Err.fault (c.in-Err.ensures.talks b hs x.there)
+
+-- ---- what it says
+
+pub returns-in-Regs-clause-word : goal.returns-in-Regs-clause-word
+returns-in-Regs-clause-word g c = subst (λ (d : Command). IfOk c.registers.result (λ text. SaysDone d text)) (sym c.in-Regs.is) (regs_else c.registers.result c.registers.ensures.word)
+
+pub returns-in-Assign-clause-word : goal.returns-in-Assign-clause-word
+returns-in-Assign-clause-word g c = subst (λ (d : Command). IfOk c.assign.result (λ text. SaysDone d text)) (sym c.in-Assign.is) c.assign.ensures.word

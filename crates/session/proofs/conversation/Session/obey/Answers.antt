@@ -3,7 +3,7 @@ use Rattle.c_session.specs.declared.command.Command.{Command}
 use Rattle.c_session.specs.declared.command.Command.TheVariants as command
 use Rattle.c_session.specs.Commands.{ByStep, ByContinue}
 use Rattle.claims.specs.Outcome.{refused_by_state, AnswersCommand}
-use Rattle.session.specs.Answered.{state_of, reason_of, limit_reply}
+use Rattle.session.specs.Answered.{state_of, reason_of, refusal_reply, limit_reply, Replies}
 use Rattle.session.specs.Meant.{AnswersAs, MeantAnswers, ResumesAs, SaidAll, NotAll}
 use Rattle.session.specs.declared.sides.SideRecord.{SideRecord}
 use Rattle.session.specs.declared.answers.Answer.TheVariants.{NoMemory}
@@ -13,6 +13,7 @@ use Rattle.session.proofs.Wanting.{represents_again, represents_as, represents_s
 use Rattle.session.proofs.Tallying.{answer_is, same_counts, said_counts, asks_or, comes_well, target_told, is_inquired}
 use Rattle.session.specs.Kept.{IsKept, AreKept, TellsTrouble}
 use Rattle.session.proofs.Answering.{undone_leaves, refuses, refused, unrefused, answers_to, says_lines, new_limit, limit_line, replied, left_so, askable, continue_resumes, step_resumes}
+use Rattle.session.proofs.Ending.{said_so, answers_else, lines_else, none_else, refusal_else, limit_else, resume_ends, said_ends}
 use Rattle.session.proofs.conversation.Session.obey.Goals as goal
 
 pub returns-in-Some-clause-meant : goal.returns-in-Some-clause-meant
@@ -183,3 +184,44 @@ returns-in_default-command-clause-stays g c = λ b hs st x q is.
     represents_again (Leaves c.args.command.now) b g.L.Link.conduct (g.L.Link.world new.talk.memory.below.below.below.link) new.first new.second new.mode new.limit st (x.state ∙ ap (λ m. state_of m) (sym (none.1 ∙ c.inquire-said.ensures.mode))) (x.limit_is ∙ sym (c.reply.ensures.limit ∙ c.inquire-said.ensures.limit))
     (subst (λ z. StandAgain (Leaves c.args.command.now) b g.L.Link.conduct (g.L.Link.world z.memory.below.below.below.link) new.first new.second st) (sym c.reply.ensures.talk)
     (subst (λ z. StandAgain (Leaves c.args.command.now) b g.L.Link.conduct (g.L.Link.world mid.talk.memory.below.below.below.link) z new.second st) (sym c.reply.ensures.first) (subst (λ z. StandAgain (Leaves c.args.command.now) b g.L.Link.conduct (g.L.Link.world mid.talk.memory.below.below.below.link) mid.first z st) (sym c.reply.ensures.second) again)))
+
+-- ---- what the writes leave, and what ends the session
+
+pub returns-in-Some-clause-leads : goal.returns-in-Some-clause-leads
+returns-in-Some-clause-leads g c = g.met.O.Sink.stays c.args.out.now
+
+pub returns-in-Turns-clause-leads : goal.returns-in-Turns-clause-leads
+returns-in-Turns-clause-leads g c = g.met.O.Sink.stays c.args.out.now
+
+pub returns-in_default-command-clause-leads : goal.returns-in_default-command-clause-leads
+returns-in_default-command-clause-leads g c = g.met.O.Sink.stays c.args.out.now
+
+pub returns-in-Some-clause-ends : goal.returns-in-Some-clause-ends
+returns-in-Some-clause-ends g c = λ is.
+    let u = reason_of c.in-Some.why in
+    let said : Replies (refusal_reply u) c.answer.result = search rules in
+    absurd (answers_else (refusal_reply u) (Ok c.answer.result) said (refusal_else u) is)
+
+pub returns-in-Continue-clause-ends : goal.returns-in-Continue-clause-ends
+returns-in-Continue-clause-ends g c = λ is.
+    let now = c.args.self.now in
+    let new = c.resume.new.self in
+    resume_ends (c.resume.new.out ≡ c.args.out.now) ByContinue now.mode new.mode now.first new.first now.second new.second now.broken c.resume.result c.resume.ensures.resumes is
+
+pub returns-in-Step-clause-ends : goal.returns-in-Step-clause-ends
+returns-in-Step-clause-ends g c = λ is.
+    let now = c.args.self.now in
+    let new = c.resume-in-Step.new.self in
+    resume_ends (c.resume-in-Step.new.out ≡ c.args.out.now) ByStep now.mode new.mode now.first new.first now.second new.second now.broken c.resume-in-Step.result c.resume-in-Step.ensures.resumes is
+
+pub returns-in-Turns-clause-ends : goal.returns-in-Turns-clause-ends
+returns-in-Turns-clause-ends g c = λ is.
+    elim c.set_limit.ensures [
+      | inl h ↦ absurd (lines_else (limit_reply c.in-Turns.limit) (Ok c.set_limit.result) (ap said_so h.0) (limit_else c.in-Turns.limit) is)
+      | inr h ↦ absurd (none_else c.set_limit.result h.0 is)
+    ]
+
+pub returns-in_default-command-clause-ends : goal.returns-in_default-command-clause-ends
+returns-in_default-command-clause-ends g c = λ is.
+    let mid = c.inquire-said.new.self in
+    said_ends c.args.command.now mid.broken mid.mode c.reply.new.self.mode c.inquire-said.result c.reply.result c.inquire-said.ensures.word c.reply.ensures.ok c.reply.ensures.fault is

@@ -156,3 +156,6 @@ returns-in-Err-clause-stays g c = λ b hs st x may is.
     represents_again WithTable b g.L.Link.conduct (g.L.Link.world reply.talk.memory.below.below.below.link) reply.first reply.second reply.mode reply.limit st (x.state ∙ ap (λ m. state_of m) (sym (none.1 ∙ c.in-Err.ensures.mode))) (x.limit_is ∙ sym (c.reply.ensures.limit ∙ c.in-Err.ensures.limit))
     (subst (λ z. StandAgain WithTable b g.L.Link.conduct (g.L.Link.world z.memory.below.below.below.link) reply.first reply.second st) (sym c.reply.ensures.talk)
     (subst (λ z. StandAgain WithTable b g.L.Link.conduct (g.L.Link.world ready.talk.memory.below.below.below.link) z reply.second st) (sym c.reply.ensures.first) (subst (λ z. StandAgain WithTable b g.L.Link.conduct (g.L.Link.world ready.talk.memory.below.below.below.link) ready.first z st) (sym c.reply.ensures.second) again)))
+
+pub returns-in-Err-clause-leads : goal.returns-in-Err-clause-leads
+returns-in-Err-clause-leads g c = g.met.O.Sink.stays c.args.out.now
