@@ -1,11 +1,14 @@
-use Rattle.std.proofs.Common.{◌∙◌, ℕ, List, sym, subst, Err}
+use Rattle.std.proofs.Common.{◌∙◌, ℕ, List, sym, subst, Err, IfErr}
 use Rattle.table_asks.specs.declared.fault.AskFault.{AskFault}
 use Rattle.session.specs.Counted.{CountsFault}
 use Rattle.session.specs.Meant.{TalksWell}
 use Rattle.session.proofs.Counting.{counts_on}
 use Rattle.session.specs.Meant.{debugged}
 use Rattle.session.proofs.Wanting.{ran_same, side_stays}
-use Rattle.session.proofs.Looked.{stays_well, only_well, well_on, undone_there, unset_counts, unset_well}
+use Rattle.table_asks.specs.Faults.{IsUnbroken}
+use Rattle.session.specs.Wanting.{StoresOne}
+use Rattle.session.proofs.Storing.{put_stores}
+use Rattle.session.proofs.Looked.{on_ok, unbroken_there, stays_well, only_well, well_on, undone_there, unset_counts, unset_well}
 use Rattle.session.proofs.both.assign_one.Goals as goal
 
 pub returns-in-Err-clause-count : goal.returns-in-Err-clause-count
@@ -36,3 +39,14 @@ returns-in-Err-assigned-clause-stays g c = λ b h beside a there ready none u.
 
 pub returns-in-Err-clause-stays : goal.returns-in-Err-clause-stays
 returns-in-Err-clause-stays g c = λ b h beside a there ready none u. record { there = there; ran = ran_same (debugged c.args.first.now h) a ready.stands }
+
+pub returns-in-Ok-assigned-clause-leaves : goal.returns-in-Ok-assigned-clause-leaves
+returns-in-Ok-assigned-clause-leaves g c = λ b h beside a there ready none.
+    let f = g.L.Link.faults c.assigned.new.talk.memory.below.below.below.link in
+    let f1 = g.L.Link.faults c.store.new.talk.memory.below.below.below.link in
+    let o = g.L.Link.world c.args.talk.now.memory.below.below.below.link in
+    let o1 = g.L.Link.world c.store.new.talk.memory.below.below.below.link in
+    let first = c.args.first.now in
+    let one = c.assigned.new.side in
+    on_ok (IfErr c.store.result (λ (e : AskFault). IsUnbroken e)) (λ x. StoresOne b g.L.Link.conduct o1 first one h beside a) c.stored.result
+    (λ x u. put_stores b g.L.Link.conduct o o1 first one h beside there a ready none c.assigned.ensures.same c.assigned.ensures.table (unbroken_there f f1 _ c.store.result u (c.store.ensures.stores b h beside (c.in-Ok-assigned.ensures.evaluated b h beside there)))) c.stored.ensures.done
