@@ -1,5 +1,5 @@
 -- A command of one side that was begun and ended: what it leaves of the side, and of the count of the link's faults.
-use Rattle.std.proofs.Common.{◌≡◌, ◌≢◌, ◌∙◌, refl, sym, ap, subst, ℕ, List, [], Option, Some, None, Result, Ok, Err, OnOk, IfErr}
+use Rattle.std.proofs.Common.{◌≡◌, ◌≢◌, ◌∙◌, refl, sym, ap, subst, ℕ, List, [], Option, Some, None, Result, Ok, Err, OnOk, IfOk, IfErr}
 use Rattle.std.specs.Global.{Vec}
 use Rattle.machine_state.specs.State.{Behaviour}
 use Rattle.nub_wire.specs.Nub.{Host}
@@ -32,24 +32,27 @@ use Rattle.table_points.specs.declared.row.Point.{Point}
 use Rattle.table_points.specs.Rows.{row_in}
 use Rattle.ps_ops.specs.declared.dialect.Operators.{Operators}
 use Rattle.c_session.specs.declared.command.Command.{Command}
+use Rattle.c_session.specs.declared.command.Command.TheVariants as command
 use Rattle.table_asks.specs.declared.fault.AskFault.{AskFault}
 use Rattle.table_asks.specs.declared.fault.AskFault.TheVariants.{Refused, Raised, Spent, NoMemory, Broken}
 use Rattle.table_asks.specs.declared.inquiry.Inquiry.{Inquiry}
+use Rattle.table_asks.specs.Faults.{IsUnbroken}
 use Rattle.asking.specs.Doing.{Asks}
 use Rattle.asking.specs.Raw.{regs_line}
 use Rattle.evaluating.specs.Told.{StoresNone, StoresAll}
-use Rattle.claims.specs.Side.{SideState}
+use Rattle.claims.specs.Side.{SideState, SessionState}
 use Rattle.side_meaning.specs.Standing.{StandsFor}
 use Rattle.side_meaning.specs.Stepping.{IsReady}
+use Rattle.side_meaning.proofs.Starting.{no_words}
 use Rattle.session.specs.declared.sides.SideRecord.{SideRecord}
 use Rattle.session.specs.Turned.{byte_of, order_of, turned}
 use Rattle.session.specs.Asked.{Does}
-use Rattle.session.specs.Kept.{IsFailure, IsQuery, IsStoreFault, IsUndone}
+use Rattle.session.specs.Kept.{IsFailure, IsKept, IsQuery, IsStoreFault, IsUndone}
 use Rattle.session.specs.Counted.{CountsFault, CountsAsk, CountsTalk}
-use Rattle.session.specs.Meant.{debugged, Hosts, IsThere, AreThere, IsBare, IsLook, ComesTo, FailsWell, TalksWell, StoredThere}
-use Rattle.session.specs.Wanting.{IsAskedAlone, TableStays, StaysOne}
+use Rattle.session.specs.Meant.{debugged, Hosts, IsThere, AreThere, AreReadyFor, IsBare, IsLook, ComesTo, FailsWell, TalksWell, StoredThere}
+use Rattle.session.specs.Wanting.{IsAskedAlone, TableStays, StaysOne, WithTable, StandAgain}
 use Rattle.session.proofs.Asking.{none_mapped, seen_by}
-use Rattle.session.proofs.Wanting.{ran_same, there_stays, one_stays}
+use Rattle.session.proofs.Wanting.{ran_same, there_stays, one_stays, second_asked}
 use Rattle.session.proofs.Beside.{second_beside, first_beside}
 use Rattle.ps_step.specs.declared.fault.PsError.{PsError}
 use Rattle.session.proofs.Counting.{fault_on, ran_counts, puts_counts, read_counts, comes_counts, leaves_counts}
@@ -169,7 +172,7 @@ module _ {L : Type 0} (c : Conduct) (world : L → Option World) (faults : L →
       subst (λ (z : Operators (Wire L)). CountsAsk (faults z.memory.below.below.below.link) (faults new.memory.below.below.below.link) r) e (leaves_counts (seen_by c world faults) t new r d)
 
   pub store_well : (r : Result (Unit {0}) AskFault) → StoresAll (seen_by c world faults) t r new → (b : Behaviour) (h : Host) (beside : Option Host) → IsThere b c (world old.memory.below.below.below.link) side h beside
-      → TalksWell (faults old.memory.below.below.below.link) (faults new.memory.below.below.below.link) (StoredThere b c (world new.memory.below.below.below.link) side beside) r
+      → TalksWell (faults old.memory.below.below.below.link) (faults new.memory.below.below.below.link) (StoredThere b c (world new.memory.below.below.below.link) side h beside) r
   store_well r d b h beside there = leaves_well c world faults b side old new h beside there r (subst (λ (z : Operators (Wire L)). StoresAll (seen_by c world faults) z r new) e d)
 
 -- ---- both sides
@@ -191,6 +194,23 @@ undone_there A f f' P (Raised e) u d = d
 undone_there A f f' P Spent u d = d
 undone_there A f f' P NoMemory u d = d
 undone_there A f f' P (Broken x) u d = absurd u
+
+-- what is done, or isn't done for a reason but the link
+pub unbroken_there : {A : Type 0} (f f' : ℕ) (P : Type 0) (r : Result A AskFault) → IfErr r (λ (e : AskFault). IsUnbroken e) → TalksWell f f' P r → P
+unbroken_there f f' P (Ok x) u d = d
+unbroken_there f f' P (Err (Refused cause)) u d = d
+unbroken_there f f' P (Err (Raised e)) u d = d
+unbroken_there f f' P (Err Spent) u d = d
+unbroken_there f f' P (Err NoMemory) u d = d
+unbroken_there f f' P (Err (Broken x)) u d = absurd u
+
+pub on_ok : {A : Type 0} (P : Type 0) (Q : A → Type 0) (r : Result A AskFault) → ((x : A) → P → Q x) → OnOk r P → IfOk r Q
+on_ok P Q (Ok x) to d = to x d
+on_ok P Q (Err e) to d = tt
+
+pub on_done : {A : Type 0} (f f' : ℕ) (P Q : Type 0) (r : Result A AskFault) → (P → Q) → TalksWell f f' P r → OnOk r Q
+on_done f f' P Q (Ok x) to d = to d
+on_done f f' P Q (Err e) to d = tt
 
 -- what isn't a failure
 pub well_there : (f f' : ℕ) (P : Type 0) (e : AskFault) → (IsFailure e → ⊥) → FailsWell f f' P e → P
@@ -215,6 +235,45 @@ second_well b c o o1 first first' second hs which there mid P go = by hs.second 
     by : (x : Option Host) → AreThere b c o first (Some second) (record { first = hs.first; second = x }) → IsThere b c o1 first' hs.first x → P
     by None t m = absurd t.second_there
     by (Some h) t m = go h (second_beside b c o o1 first' second h hs.first (Some hs.first) t.second_there.0 t.second_there.1 (which ∙ t.first_is) m)
+
+-- the first one, once the second was asked
+pub first_still : (b : Behaviour) (c : Conduct) (o o1 o2 : Option World) (first first' second second' : SideRecord) (hs : Hosts) → first'.which ≡ first.which → second'.which ≡ second.which → AreThere b c o first (Some second) hs → IsThere b c o1 first' hs.first hs.second
+    → ((h : Host) → IsThere b c o1 second h (Some hs.first) → IsThere b c o2 second' h (Some hs.first)) → IsThere b c o2 first' hs.first hs.second
+first_still b c o o1 o2 first first' second second' hs which second_which there mid asked = by hs.second there mid
+  where
+    by : (x : Option Host) → AreThere b c o first (Some second) (record { first = hs.first; second = x }) → IsThere b c o1 first' hs.first x → IsThere b c o2 first' hs.first x
+    by None t m = absurd t.second_there
+    by (Some h) t m =
+        let waits : IsThere b c o1 second h (Some hs.first) = second_beside b c o o1 first' second h hs.first (Some hs.first) t.second_there.0 t.second_there.1 (which ∙ t.first_is) m in
+        first_beside b c o1 o2 first' second' hs.first h (Some h) (which ∙ t.first_is) m (second_which ∙ t.second_there.0) (asked h waits)
+
+-- a query that looks
+pub record HasLooked (side side' : SideRecord) : Type 0 where
+  pub which : side'.which ≡ side.which
+  pub same : side' ≡ record side { inquiry = side'.inquiry; row = record side.row { breaks = side'.row.breaks }; frame = side'.frame }
+  pub kept : IsKept side side'
+  pub table : TableStays side.inquiry.core.store side'.inquiry.core.store
+
+pub look_stays : (b : Behaviour) (c : Conduct) (o o' : Option World) (side side' : SideRecord) (h : Host) (beside : Option Host) (a : SideState) → IsThere b c o side h beside → IsReady (debugged side h) a → a.step_words ≡ [] → HasLooked side side' → IsThere b c o' side' h beside → StaysOne b c o' side' h beside a
+look_stays b c o o' side side' h beside a x ready none l there =
+    one_stays b c o o' side h beside x side'.inquiry side'.row.breaks side'.frame l.kept.0 l.table (subst (λ (w : Side). Stands b c w o' h beside) l.which there.stands) a ready.stands none
+    (none_mapped (row_in side.inquiry.core.store) side.row.step_words.items (sym ready.planted.words ∙ none)) l.kept.1 side' l.same
+
+-- both were asked one
+pub both_look : (b : Behaviour) (c : Conduct) (o o1 o2 : Option World) (first first' second second' : SideRecord) (hs : Hosts) (st : SessionState) → AreThere b c o first (Some second) hs → AreReadyFor first (Some second) hs st → HasLooked first first' → HasLooked second second' → IsThere b c o1 first' hs.first hs.second
+    → ((h : Host) (beside : Option Host) → IsThere b c o1 second h beside → IsThere b c o2 second' h beside) → StandAgain WithTable b c o2 first' (Some second') st
+both_look b c o o1 o2 first first' second second' hs st there ready l l' mid asked =
+    second_asked b c st ready.still o o1 o2 first first' second second' hs there ready l.which l'.which
+    (look_stays b c o o1 first first' hs.first hs.second st.first there.first_there ready.ready.0 (no_words st.state (debugged first hs.first) st.first ready.still ready.sides.first) l mid)
+    (λ h beside a x r none. look_stays b c o1 o2 second second' h beside a x r none l' (asked h beside x))
+
+pub look_alone : (c : Command) → IsLook c → IsAskedAlone c
+look_alone command.Frames h = tt
+look_alone (command.Frame n) h = tt
+look_alone (command.Print name) h = tt
+look_alone (command.Eval text) h = tt
+look_alone (command.Code text) h = tt
+look_alone c h = absurd h
 
 -- what isn't done on the first side may be asked of the second one
 pub undone_counts : (f f1 f2 : ℕ) (fault answer : AskFault) → CountsFault f f1 fault → (IsFailure fault → (answer ≡ fault) × (f2 ≡ f1)) → ((IsFailure fault → ⊥) → CountsFault f1 f2 answer) → CountsFault f f2 answer

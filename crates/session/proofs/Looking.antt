@@ -218,17 +218,18 @@ module _ {L : Type 0} (c : Conduct) (world : L → Option World) (faults : L →
   looks_well (Err (Broken (Outside p))) d = d
 
   -- leaves were stored
-  changed : Changed seen start new → StoredThere b c (world new.memory.below.below.below.link) side beside
+  changed : Changed seen start new → StoredThere b c (world new.memory.below.below.below.link) side h beside
   changed d =
       let y = d.after h.machine.memory rest told in
       let n = numbers_of start.memory.below.below.order h.machine.memory new.memory.below.below.order y.0 y.1 in
       record {
-        host = with_regions h y.0;
+        regions = y.0;
+        stores = subst (λ (z : Order). StoresNumbers z h.machine.memory y.0) there.order n.1;
         there = record { stands = stands_with new.memory.below.below.order y.0 n.1 y.2; context = there.context; target = there.target; order = there.order; names = record { breaks = there.names.breaks; words = there.names.words; kept = there.names.kept } };
       }
 
   pub leaves_well : (r : Result (Unit {0}) AskFault) → StoresAll seen start r new
-      → TalksWell (faults old.memory.below.below.below.link) (faults new.memory.below.below.below.link) (StoredThere b c (world new.memory.below.below.below.link) side beside) r
+      → TalksWell (faults old.memory.below.below.below.link) (faults new.memory.below.below.below.link) (StoredThere b c (world new.memory.below.below.below.link) side h beside) r
   leaves_well (Ok x) d = changed d
   leaves_well (Err (Raised e)) d = changed d
   leaves_well (Err (Broken LinkFault)) d = d

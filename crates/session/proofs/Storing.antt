@@ -5,6 +5,7 @@ use Rattle.std.specs.List.{AllByRecursion}
 use Rattle.ldb_words.specs.declared.kinds.Order.{Order}
 use Rattle.machine_state.specs.Regions.{Regions}
 use Rattle.machine_state.specs.State.{MachineState, Behaviour, order_of as machine_order}
+use Rattle.nub_wire.specs.declared.link.Side.{Side}
 use Rattle.nub_wire.specs.declared.link.Side.TheVariants.{First, Second}
 use Rattle.nub_wire.specs.Nub.{Host}
 use Rattle.nub_wire.specs.Delivery.{Conduct, World}
@@ -44,7 +45,7 @@ use Rattle.side_meaning.specs.Storing.{StoresNumbers, none_stored, KeepsTarget}
 use Rattle.side_meaning.proofs.Starting.{asks_stand, no_words}
 use Rattle.session.specs.declared.sides.SideRecord.{SideRecord}
 use Rattle.session.specs.Kept.{IsFailure, IsUndone}
-use Rattle.session.specs.Meant.{debugged, second_of, sides_of, Hosts, IsThere, AreThere, AreReadyFor}
+use Rattle.session.specs.Meant.{debugged, second_of, sides_of, Hosts, IsThere, AreThere, AreReadyFor, StoredThere}
 use Rattle.session.specs.Wanting.{TableStays, StoresOne, WithNumbers, StandAgain}
 use Rattle.session.specs.Turned.{order_of, turned}
 use Rattle.session.proofs.Asking.{none_mapped, target_told, seen_by}
@@ -97,6 +98,12 @@ module _ (b : Behaviour) (c : Conduct) (o o' : Option World) (side : SideRecord)
   -- nothing was stored
   pub none_stores : Stands b c side.which o' h beside → (side' : SideRecord) → side' ≡ after → StoresOne b c o' side side' h beside a
   none_stores stands side' e = one_stores h.machine.memory none_stored stands side' e
+
+-- an assignment was stored
+pub put_stores : (b : Behaviour) (c : Conduct) (o o' : Option World) (side side' : SideRecord) (h : Host) (beside : Option Host) → IsThere b c o side h beside → (a : SideState) → IsReady (debugged side h) a → a.step_words ≡ [] → side' ≡ record side { inquiry = side'.inquiry }
+    → TableStays side.inquiry.core.store side'.inquiry.core.store → StoredThere b c o' side' h beside → StoresOne b c o' side side' h beside a
+put_stores b c o o' side side' h beside x a ready none same table put =
+    one_stores b c o o' side h beside x a ready none side'.inquiry table put.regions put.stores (subst (λ (w : Side). Stands b c w o' (with_regions h put.regions) beside) (ap (λ (z : SideRecord). z.which) same) put.there.stands) side' same
 
 -- ---- a text of PostScript
 

@@ -29,16 +29,17 @@ use Rattle.session.specs.declared.answers.End.TheVariants as end
 use Rattle.session.specs.declared.modes.Mode.{Mode}
 use Rattle.session.specs.declared.modes.Mode.TheVariants as mode
 use Rattle.session.specs.declared.sides.SideRecord.{SideRecord}
-use Rattle.session.specs.Kept.{AnswersFault, IsBrokenOff, IsUndone}
+use Rattle.session.specs.Answered.{state_of}
+use Rattle.session.specs.Kept.{AnswersFault, IsBrokenOff, IsQuery, IsUndone}
 use Rattle.session.specs.Counted.{CountsFault, CountsAsk, CountsTalk, CountsAnswer}
 use Rattle.session.specs.Meant.{debugged, IsThere, Hosts, second_of, sides_of, AreThere, ComesTo, TalksWell, Settled, AllPrepared, AllCleared, IsInquiry, IsAskable, IsExpression, IsLook}
-use Rattle.session.specs.Wanting.{IsAskedAlone, IsInquired, IsText, WithTable, StandAgain}
+use Rattle.session.specs.Wanting.{IsAskedAlone, IsInquired, IsText, WithTable, Leaves, LeavesIfAny, LeavesTarget, StandAgain}
 use Rattle.session.proofs.AskingOne.{asked_still}
 use Rattle.session.proofs.Beside.{second_beside, first_beside}
 use Rattle.session.proofs.Counting.{fault_on}
 use Rattle.session.proofs.Looked.{undone_as}
 use Rattle.session.proofs.Readying.{TakesAway, second_stays}
-use Rattle.session.proofs.Wanting.{unprepared}
+use Rattle.session.proofs.Wanting.{Change, leaves_if_any, unprepared}
 
 -- ---- answers
 
@@ -232,6 +233,49 @@ expression_look (command.Eval text) h n = tt
 expression_look (command.Code text) h n = tt
 expression_look (command.Assign text) h n = absurd (n _ refl)
 expression_look c h n = absurd h
+
+pub expression_query : (c : Command) → IsExpression c → IsQuery c
+expression_query (command.Eval text) h = tt
+expression_query (command.Code text) h = tt
+expression_query (command.Assign text) h = tt
+expression_query c h = absurd h
+
+-- lines that leave the target are those of an expression
+lines_of : (c : Command) (text : List ℕ) → LeavesTarget (Some c) (Ok (answer.Lines text)) → IsExpression c
+lines_of (command.Eval text) l h = tt
+lines_of (command.Code text) l h = tt
+lines_of (command.Assign text) l h = tt
+lines_of c l h = absurd h
+
+pub only_wants : (c : Command) (r : Result Answer End) → (IsExpression c → ⊥) → LeavesTarget (Some c) r → r ≡ Ok answer.NoMemory
+only_wants c (Ok answer.NoMemory) n h = refl
+only_wants c (Ok (answer.Lines text)) n h = absurd (n (lines_of c text h))
+only_wants c (Err e) n h = absurd (no_end c e h)
+  where
+    no_end : (d : Command) (e : End) → LeavesTarget (Some d) (Err e) → ⊥
+    no_end d e h = h
+
+-- what a command leaves that is answered, whose session goes on
+module _ (c : Command) (S : Change → Type 0) (weaken : (P Q : Change) → ((a a' : SideState) → P a a' → Q a a') → S P → S Q) (broken : List ℕ) (mid new : Mode) (same : new ≡ mid) (goes : mid ≢ mode.Ended) (a : Answer) where
+  undone_again : S (Leaves c) → S (LeavesIfAny (Some c) (Ok a))
+  undone_again s = weaken (Leaves c) (LeavesIfAny (Some c) (Ok a)) (leaves_if_any c (Ok a)) s
+
+  pub answer_again : (said : Result (List ℕ) AskFault) → (IsUndone said → S (Leaves c)) → (IsExpression c → IfOk said (λ (text : List ℕ). S (LeavesIfAny (Some c) (Ok (answer.Lines text))))) → IfOk said (λ text. (a ≡ answer.Lines text) × (new ≡ mid))
+      → IfErr said (λ (fault : AskFault). AnswersFault broken mid new fault a) → LeavesTarget (Some c) (Ok a) → S (LeavesIfAny (Some c) (Ok a))
+  answer_again (Ok text) undone leaves ok err h =
+      subst (λ (z : Answer). S (LeavesIfAny (Some c) (Ok z))) (sym ok.0) (leaves (lines_of c text (subst (λ (z : Answer). LeavesTarget (Some c) (Ok z)) ok.0 h)))
+  answer_again (Err (Refused cause)) undone leaves ok err h = undone_again (undone tt)
+  answer_again (Err (Raised e)) undone leaves ok err h = undone_again (undone tt)
+  answer_again (Err Spent) undone leaves ok err h = undone_again (undone tt)
+  answer_again (Err NoMemory) undone leaves ok err h = undone_again (undone tt)
+  answer_again (Err (Broken x)) undone leaves ok err h = absurd (goes (sym same ∙ err.0))
+
+pub unended : (m : Mode) (c : Command) → c ≢ command.Quit → refused_by_state (state_of m) c ≡ None → m ≢ mode.Ended
+unended m c q e is = ended c q (subst (λ (z : Mode). refused_by_state (state_of z) c ≡ None) is e)
+  where
+    ended : (d : Command) → d ≢ command.Quit → refused_by_state Ended d ≡ None → ⊥
+    ended command.Quit q e = q refl
+    ended d q e = cc
 
 pub is_inquired : (c : Command) → c ≢ command.Continue → c ≢ command.Step → ((n : ℕ) → c ≢ command.Turns n) → c ≢ command.Quit → IsInquired c
 is_inquired command.Continue n m k q = absurd (n refl)

@@ -44,6 +44,9 @@ use Rattle.side_meaning.proofs.Asking.{names_stay}
 use Rattle.side_meaning.proofs.Beginning.{settled_stands, stands_with, step_undone, Undone}
 use Rattle.side_meaning.proofs.Starting.{no_words, in_state}
 use Rattle.side_meaning.proofs.Telling.{memories}
+use Rattle.session.specs.declared.answers.Answer.{Answer}
+use Rattle.session.specs.declared.answers.Answer.TheVariants as answer
+use Rattle.session.specs.declared.answers.End.{End}
 use Rattle.session.specs.declared.modes.Mode.{Mode}
 use Rattle.session.specs.declared.sides.SideRecord.{SideRecord}
 use Rattle.session.specs.Answered.{state_of}
@@ -213,9 +216,17 @@ same_leaves c a = table_leaves c a a refl
 pub same_numbers : (a : SideState) → WithNumbers a a
 same_numbers a = record { same = refl; stores = none_stored }
 
-pub same_leaves_if_any : (c : Option Command) (a : SideState) → LeavesIfAny c a a
-same_leaves_if_any None a = refl
-same_leaves_if_any (Some c) a = same_leaves c a
+-- what its answer leaves
+pub leaves_if_any : (c : Command) (r : Result Answer End) (a a' : SideState) → Leaves c a a' → LeavesIfAny (Some c) r a a'
+leaves_if_any (command.Assign text) (Ok (answer.Lines l)) a a' h = table_leaves (command.Ps text) a a' h
+leaves_if_any c r a a' h = h
+
+pub numbers_leave_if_any : (c : Command) (text l : List ℕ) → c ≡ command.Assign text → (a a' : SideState) → WithNumbers a a' → LeavesIfAny (Some c) (Ok (answer.Lines l)) a a'
+numbers_leave_if_any c text l is a a' h = subst (λ (d : Command). LeavesIfAny (Some d) (Ok (answer.Lines l)) a a') (sym is) h
+
+pub same_leaves_if_any : (c : Option Command) (r : Result Answer End) (a : SideState) → LeavesIfAny c r a a
+same_leaves_if_any None r a = refl
+same_leaves_if_any (Some c) r a = leaves_if_any c r a a (same_leaves c a)
 
 record SecondAgain (state : State) (d : Option Debugged) (a : Option SideState) : Type 0 where
   after : Option SideState

@@ -4,6 +4,7 @@ use Rattle.ldb_edge.specs.Count.{Rose}
 use Rattle.ldb_edge.specs.Known.{known_and}
 use Rattle.ldb_words.specs.declared.kinds.Order.{Order}
 use Rattle.machine_state.specs.declared.layout.TheConstants.{CONTEXT}
+use Rattle.machine_state.specs.Regions.{Regions}
 use Rattle.machine_state.specs.State.{Behaviour, order_of as machine_order}
 use Rattle.nub_wire.specs.declared.link.Side.{Side}
 use Rattle.nub_wire.specs.declared.link.Side.TheVariants.{First, Second}
@@ -20,7 +21,7 @@ use Rattle.abs_mem.specs.declared.memory.MemFault.{MemFault}
 use Rattle.abs_mem.specs.declared.memory.MemFault.TheVariants.{Outside, LinkFault, BadReply}
 use Rattle.debug_side.specs.declared.event.Event.{Event}
 use Rattle.debug_side.specs.declared.point.MachineKind.{MachineKind}
-use Rattle.debug_side.specs.Told.{MayRun, its_output}
+use Rattle.debug_side.specs.Told.{MayRun, its_output, with_regions}
 use Rattle.dialect_model.specs.TableUse.{TableUse, Trouble, Kind, Wanting}
 use Rattle.dialect_model.specs.TableUse.{Refused as RefusedFor, Spent as StepsSpent}
 use Rattle.c_session.specs.declared.command.Command.{Command}
@@ -36,6 +37,7 @@ use Rattle.claims.specs.Outcome.{Prepares, OneSide, Resumes, Answers}
 use Rattle.side_meaning.specs.Standing.{Debugged, StandsFor}
 use Rattle.side_meaning.specs.Asking.{HasNames, IsAsked}
 use Rattle.side_meaning.specs.Stepping.{IsSettled, IsStepped, FindsWords, IsReady}
+use Rattle.side_meaning.specs.Storing.{StoresNumbers}
 use Rattle.side_meaning.specs.Sessions.{BothSides, OnSecond, SidesStand, IsStill, AreReady, ArePrepared, AreResumed}
 use Rattle.session.specs.declared.answers.Answer.{Answer}
 use Rattle.session.specs.declared.answers.Answer.TheVariants as answer
@@ -290,10 +292,11 @@ module _ (b : Behaviour) (c : Conduct) (o : Option World) (side side' : SideReco
     pub found_memory : result ≢ Err Wanting
     pub asked : AskedOne result
 
--- something was stored in its machine's memory
-pub record StoredThere (b : Behaviour) (c : Conduct) (o : Option World) (side : SideRecord) (beside : Option Host) : Type 0 where
-  pub host : Host
-  pub there : IsThere b c o side host beside
+-- numbers were stored in its machine's memory
+pub record StoredThere (b : Behaviour) (c : Conduct) (o : Option World) (side : SideRecord) (h : Host) (beside : Option Host) : Type 0 where
+  pub regions : Regions
+  pub there : IsThere b c o side (with_regions h regions) beside
+  pub stores : StoresNumbers (machine_order h.machine) h.machine.memory regions
 
 -- ---- a command of all sides
 

@@ -44,7 +44,7 @@ pub fn store<L: Link + Drop>(
     side: &SideRecord,
     changes: &Changes,
 ) -> Result<(), AskFault>
-    ensures stores { (b : Behaviour) (h : Host) (beside : Option Host) → IsThere b L.conduct (L.world talk.old.memory.below.below.below.link) side.now h beside → TalksWell (L.faults talk.old.memory.below.below.below.link) (L.faults talk.new.memory.below.below.below.link) (StoredThere b L.conduct (L.world talk.new.memory.below.below.below.link) side.now beside) result }
+    ensures stores { (b : Behaviour) (h : Host) (beside : Option Host) → IsThere b L.conduct (L.world talk.old.memory.below.below.below.link) side.now h beside → TalksWell (L.faults talk.old.memory.below.below.below.link) (L.faults talk.new.memory.below.below.below.link) (StoredThere b L.conduct (L.world talk.new.memory.below.below.below.link) side.now h beside) result }
     ensures last { IfErr result (λ fault. IsStoreFault fault) }
     ensures count { CountsAsk (L.faults talk.old.memory.below.below.below.link) (L.faults talk.new.memory.below.below.below.link) result }
 {

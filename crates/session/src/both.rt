@@ -6,7 +6,7 @@ ghost use Rattle.machine_state.specs.State.{Behaviour};
 ghost use Rattle.nub_wire.specs.Nub.{Host};
 ghost use Rattle.c_session.specs.declared.command.Command.TheVariants.{Ps};
 ghost use Rattle.claims.specs.Side.{SessionState, SideState};
-ghost use Rattle.session.specs.Meant.{ComesTo, Hosts, IsThere, AreThere, AreReadyFor, IsLook, IsInquiry, TalksWell, RanOne, SaidAll, NotAll, debugged, sides_of};
+ghost use Rattle.session.specs.Meant.{ComesTo, Hosts, IsThere, AreThere, AreReadyFor, IsLook, IsInquiry, TalksWell, RanOne, SaidAll, NotAll, StoredThere, debugged, sides_of};
 ghost use Rattle.abs_mem.specs.WireMeaning.{memory_of};
 ghost use Rattle.session.specs.Answered.{error_reply};
 ghost use Rattle.session.specs.Counted.{CountsAsk, CountsFault};
@@ -80,6 +80,7 @@ fn asked_behind<L: Link + Drop>(
     ensures word { IfOk result (λ text. SaysDone command.now text) }
     ensures stays { (b : Behaviour) (hs : Hosts) (st : SessionState) → AreThere b L.conduct (L.world talk.old.memory.below.below.below.link) first.old (Some second.old) hs → AreReadyFor first.old (Some second.old) hs st → IsAskedAlone command.now
         → words.now ≡ words_before command.now (memory_of hs.first.machine) first.old.row.breaks.items → IsUndone result → StandAgain WithTable b L.conduct (L.world talk.new.memory.below.below.below.link) first.new (Some second.new) st }
+    ensures leaves { (b : Behaviour) (hs : Hosts) (st : SessionState) → AreThere b L.conduct (L.world talk.old.memory.below.below.below.link) first.old (Some second.old) hs → AreReadyFor first.old (Some second.old) hs st → IsLook command.now → IsQuery command.now → OnOk result (StandAgain WithTable b L.conduct (L.world talk.new.memory.below.below.below.link) first.new (Some second.new) st) }
     ensures stores { (b : Behaviour) (hs : Hosts) (st : SessionState) → AreThere b L.conduct (L.world talk.old.memory.below.below.below.link) first.old (Some second.old) hs → AreReadyFor first.old (Some second.old) hs st → IsText command.now → IsUndone result
         → StandAgain WithNumbers b L.conduct (L.world talk.new.memory.below.below.below.link) first.new (Some second.new) st }
     ensures meant { (b : Behaviour) (hs : Hosts) (st : SessionState) → AreThere b L.conduct (L.world talk.old.memory.below.below.below.link) first.old (Some second.old) hs → AreReadyFor first.old (Some second.old) hs st → IsInquiry command.now
@@ -127,6 +128,7 @@ pub fn asked_both<L: Link + Drop>(
     ensures word { IfOk result (λ text. SaysDone command.now text) }
     ensures stays { (b : Behaviour) (hs : Hosts) (st : SessionState) → AreThere b L.conduct (L.world talk.old.memory.below.below.below.link) first.old (Some second.old) hs → AreReadyFor first.old (Some second.old) hs st → IsAskedAlone command.now → IsUndone result
         → StandAgain WithTable b L.conduct (L.world talk.new.memory.below.below.below.link) first.new (Some second.new) st }
+    ensures leaves { (b : Behaviour) (hs : Hosts) (st : SessionState) → AreThere b L.conduct (L.world talk.old.memory.below.below.below.link) first.old (Some second.old) hs → AreReadyFor first.old (Some second.old) hs st → IsLook command.now → IsQuery command.now → OnOk result (StandAgain WithTable b L.conduct (L.world talk.new.memory.below.below.below.link) first.new (Some second.new) st) }
     ensures stores { (b : Behaviour) (hs : Hosts) (st : SessionState) → AreThere b L.conduct (L.world talk.old.memory.below.below.below.link) first.old (Some second.old) hs → AreReadyFor first.old (Some second.old) hs st → IsText command.now → IsUndone result
         → StandAgain WithNumbers b L.conduct (L.world talk.new.memory.below.below.below.link) first.new (Some second.new) st }
     ensures meant { (b : Behaviour) (hs : Hosts) (st : SessionState) → AreThere b L.conduct (L.world talk.old.memory.below.below.below.link) first.old (Some second.old) hs → AreReadyFor first.old (Some second.old) hs st → IsInquiry command.now
@@ -196,6 +198,7 @@ fn stored(done: Result<(), AskFault>, said: Sayings) -> Result<Text, AskFault>
     ensures well { (f f' : ℕ) → TalksWell f f' (Unit {0}) done → TalksWell f f' (Unit {0}) result }
     ensures word { said.set ≢ codes "target\n" → said.outside ≢ codes "target\n" → IfOk result (λ text. text ≢ codes "target\n") }
     ensures whole { IfErr done (λ fault. IsStoreFault fault) → IsUndone result → ⊥ }
+    ensures done { OnOk result (IfErr done (λ fault. IsUnbroken fault)) }
 {
     match done {
         Ok(()) => Ok(said.set),
@@ -210,6 +213,7 @@ fn stored_on_both(done: Result<(), AskFault>, said: Sayings) -> Result<Text, Ask
     ensures well { (f f' : ℕ) → TalksWell f f' (Unit {0}) done → TalksWell f f' (Unit {0}) result }
     ensures word { said.set ≢ codes "target\n" → IfOk result (λ text. text ≢ codes "target\n") }
     ensures whole { IfErr done (λ fault. IsStoreFault fault) → IsUndone result → ⊥ }
+    ensures done { OnOk result (IfErr done (λ fault. IsUnbroken fault)) }
 {
     match done {
         Ok(()) | Err(AskFault::Raised(_)) => Ok(said.set),
@@ -229,6 +233,8 @@ pub fn assign_one<L: Link + Drop>(
     ensures evaluated { (b : Behaviour) (h : Host) (beside : Option Host) → IsThere b L.conduct (L.world talk.old.memory.below.below.below.link) first.old h beside → TalksWell (L.faults talk.old.memory.below.below.below.link) (L.faults talk.new.memory.below.below.below.link) (Unit {0}) result }
     ensures stays { (b : Behaviour) (h : Host) (beside : Option Host) (a : SideState) → IsThere b L.conduct (L.world talk.old.memory.below.below.below.link) first.old h beside → IsReady (debugged first.old h) a → a.step_words ≡ [] → IsUndone result
         → StaysOne b L.conduct (L.world talk.new.memory.below.below.below.link) first.new h beside a }
+    ensures leaves { (b : Behaviour) (h : Host) (beside : Option Host) (a : SideState) → IsThere b L.conduct (L.world talk.old.memory.below.below.below.link) first.old h beside → IsReady (debugged first.old h) a → a.step_words ≡ []
+        → OnOk result (StoresOne b L.conduct (L.world talk.new.memory.below.below.below.link) first.old first.new h beside a) }
     ensures count { CountsAsk (L.faults talk.old.memory.below.below.below.link) (L.faults talk.new.memory.below.below.below.link) result }
 {
     let said = match sayings_for(first.inquiry.core.operands.allocator()) {
@@ -254,6 +260,7 @@ fn stored_alone<L: Link + Drop>(
     ensures stores { (b : Behaviour) (h : Host) (beside : Option Host) → (IsFailure fault → ⊥) → IsThere b L.conduct (L.world talk.old.memory.below.below.below.link) first.now h beside → TalksWell (L.faults talk.old.memory.below.below.below.link) (L.faults talk.new.memory.below.below.below.link) (Unit {0}) result }
     ensures word { said.set ≢ codes "target\n" → said.outside ≢ codes "target\n" → IfOk result (λ text. text ≢ codes "target\n") }
     ensures whole { (IsFailure fault → ⊥) → IsUndone result → ⊥ }
+    ensures leaves { (b : Behaviour) (h : Host) (beside : Option Host) → (IsFailure fault → ⊥) → IsThere b L.conduct (L.world talk.old.memory.below.below.below.link) first.now h beside → OnOk result (StoredThere b L.conduct (L.world talk.new.memory.below.below.below.link) first.now h beside) }
     ensures count { (IsFailure fault → ⊥) → CountsAsk (L.faults talk.old.memory.below.below.below.link) (L.faults talk.new.memory.below.below.below.link) result }
 {
     if is_failure(&fault) {
@@ -276,6 +283,7 @@ pub fn assign_both<L: Link + Drop>(
     ensures evaluated { (b : Behaviour) (hs : Hosts) → AreThere b L.conduct (L.world talk.old.memory.below.below.below.link) first.old (Some second.old) hs → TalksWell (L.faults talk.old.memory.below.below.below.link) (L.faults talk.new.memory.below.below.below.link) (Unit {0}) result }
     ensures stays { (b : Behaviour) (hs : Hosts) (st : SessionState) → AreThere b L.conduct (L.world talk.old.memory.below.below.below.link) first.old (Some second.old) hs → AreReadyFor first.old (Some second.old) hs st → IsUndone result
         → StandAgain WithTable b L.conduct (L.world talk.new.memory.below.below.below.link) first.new (Some second.new) st }
+    ensures leaves { (b : Behaviour) (hs : Hosts) (st : SessionState) → AreThere b L.conduct (L.world talk.old.memory.below.below.below.link) first.old (Some second.old) hs → AreReadyFor first.old (Some second.old) hs st → OnOk result (StandAgain WithNumbers b L.conduct (L.world talk.new.memory.below.below.below.link) first.new (Some second.new) st) }
     ensures count { CountsAsk (L.faults talk.old.memory.below.below.below.link) (L.faults talk.new.memory.below.below.below.link) result }
 {
     let said = match sayings_for(first.inquiry.core.operands.allocator()) {

@@ -240,7 +240,8 @@ impl<L: Link + Drop> Session<L> {
     /// where it is `break`, `clear` or `frame` and is done, or its link failed. `continue` and `step` tell the event of all
     /// sides, or aren't begun, or end the session. Without memory the session's state, its limit, its breakpoints and its chosen
     /// frames are as before, and so are its targets and the count of the link's faults, and nothing was put into the output; units of
-    /// tables that were run stay so, and what a text of PostScript stored in the target stays.
+    /// tables that were run stay so, and what a text of PostScript stored in the target stays. Lines to `eval` and `code` leave as much as
+    /// it was, and lines to `assign` all but numbers that were stored in the targets.
     pub fn command<O: Sink>(&mut self, line: &[u8], out: &mut O) -> Result<Answer, End>
         ensures quit { read_of self.old.raw line.now ≡ Some Quit → result ≡ Err End.Quit }
         ensures quits { result ≡ Err End.Quit → read_of self.old.raw line.now ≡ Some Quit }
@@ -297,7 +298,8 @@ impl<L: Link + Drop> Session<L> {
             → AnswersAs b L.conduct (L.world self.new.talk.memory.below.below.below.link) self.new.first self.new.second self.new.mode self.new.limit st (O.taken out.old) (O.taken out.new) (MeantAnswers b st (Some command.now)) (L.faults self.old.talk.memory.below.below.below.link) (L.faults self.new.talk.memory.below.below.below.link) self.old.broken result }
         ensures raw { self.new.raw ≡ self.old.raw }
         ensures broken { KeepsReply self.old.broken self.new.broken self.new.mode }
-        ensures stays { (b : Behaviour) (hs : Hosts) (st : SessionState) → Represents b L.conduct (L.world self.old.talk.memory.below.below.below.link) self.old.first self.old.second self.old.mode self.old.limit hs st → command.now ≢ Quit → result ≡ Ok Answer.NoMemory → RepresentsAgain (Leaves command.now) b L.conduct (L.world self.new.talk.memory.below.below.below.link) self.new.first self.new.second self.new.mode self.new.limit st }
+        ensures stays { (b : Behaviour) (hs : Hosts) (st : SessionState) → Represents b L.conduct (L.world self.old.talk.memory.below.below.below.link) self.old.first self.old.second self.old.mode self.old.limit hs st → command.now ≢ Quit → LeavesTarget (Some command.now) result → self.new.mode ≡ self.old.mode
+            → RepresentsAgain (LeavesIfAny (Some command.now) result) b L.conduct (L.world self.new.talk.memory.below.below.below.link) self.new.first self.new.second self.new.mode self.new.limit st }
         ensures target { (b : Behaviour) (hs : Hosts) (st : SessionState) → Represents b L.conduct (L.world self.old.talk.memory.below.below.below.link) self.old.first self.old.second self.old.mode self.old.limit hs st → command.now ≢ Continue → command.now ≢ Step → command.now ≢ Quit → (self.new.mode ≡ self.old.mode) ⊎ Rose (L.faults self.old.talk.memory.below.below.below.link) (L.faults self.new.talk.memory.below.below.below.link) }
         ensures count { CountsAnswer (L.faults self.old.talk.memory.below.below.below.link) (L.faults self.new.talk.memory.below.below.below.link) self.old.broken self.new.mode result }
     {
@@ -398,6 +400,7 @@ impl<L: Link + Drop> Session<L> {
         ensures broken { self.new.broken ≡ self.old.broken }
         ensures stays { (b : Behaviour) (hs : Hosts) (st : SessionState) → AreThere b L.conduct (L.world self.old.talk.memory.below.below.below.link) self.old.first self.old.second hs → AreReadyFor self.old.first self.old.second hs st → IsAskedAlone command.now → IsUndone result
             → StandAgain WithTable b L.conduct (L.world self.new.talk.memory.below.below.below.link) self.new.first self.new.second st }
+        ensures leaves { (b : Behaviour) (hs : Hosts) (st : SessionState) → AreThere b L.conduct (L.world self.old.talk.memory.below.below.below.link) self.old.first self.old.second hs → AreReadyFor self.old.first self.old.second hs st → IsLook command.now → IsQuery command.now → OnOk result (StandAgain WithTable b L.conduct (L.world self.new.talk.memory.below.below.below.link) self.new.first self.new.second st) }
         ensures stores { (b : Behaviour) (hs : Hosts) (st : SessionState) → AreThere b L.conduct (L.world self.old.talk.memory.below.below.below.link) self.old.first self.old.second hs → AreReadyFor self.old.first self.old.second hs st → IsText command.now → IsUndone result
             → StandAgain WithNumbers b L.conduct (L.world self.new.talk.memory.below.below.below.link) self.new.first self.new.second st }
         ensures looked { (b : Behaviour) (hs : Hosts) → AreThere b L.conduct (L.world self.old.talk.memory.below.below.below.link) self.old.first self.old.second hs → IsLook command.now → TalksWell (L.faults self.old.talk.memory.below.below.below.link) (L.faults self.new.talk.memory.below.below.below.link) (Unit {0}) result }
@@ -420,6 +423,7 @@ impl<L: Link + Drop> Session<L> {
         ensures evaluated { (b : Behaviour) (hs : Hosts) → AreThere b L.conduct (L.world self.old.talk.memory.below.below.below.link) self.old.first self.old.second hs → TalksWell (L.faults self.old.talk.memory.below.below.below.link) (L.faults self.new.talk.memory.below.below.below.link) (Unit {0}) result }
         ensures stays { (b : Behaviour) (hs : Hosts) (st : SessionState) → AreThere b L.conduct (L.world self.old.talk.memory.below.below.below.link) self.old.first self.old.second hs → AreReadyFor self.old.first self.old.second hs st → IsUndone result
             → StandAgain WithTable b L.conduct (L.world self.new.talk.memory.below.below.below.link) self.new.first self.new.second st }
+        ensures leaves { (b : Behaviour) (hs : Hosts) (st : SessionState) → AreThere b L.conduct (L.world self.old.talk.memory.below.below.below.link) self.old.first self.old.second hs → AreReadyFor self.old.first self.old.second hs st → OnOk result (StandAgain WithNumbers b L.conduct (L.world self.new.talk.memory.below.below.below.link) self.new.first self.new.second st) }
         ensures count { CountsAsk (L.faults self.old.talk.memory.below.below.below.link) (L.faults self.new.talk.memory.below.below.below.link) result }
     {
         match &mut self.second {
@@ -441,6 +445,8 @@ impl<L: Link + Drop> Session<L> {
         ensures broken { self.new.broken ≡ self.old.broken }
         ensures stays { (b : Behaviour) (hs : Hosts) (st : SessionState) → Represents b L.conduct (L.world self.old.talk.memory.below.below.below.link) self.old.first self.old.second self.old.mode self.old.limit hs st → refused_by_state st.state command.now ≡ None → IsInquired command.now → IsUndone result
             → StandAgain (Leaves command.now) b L.conduct (L.world self.new.talk.memory.below.below.below.link) self.new.first self.new.second st }
+        ensures leaves { (b : Behaviour) (hs : Hosts) (st : SessionState) → Represents b L.conduct (L.world self.old.talk.memory.below.below.below.link) self.old.first self.old.second self.old.mode self.old.limit hs st → refused_by_state st.state command.now ≡ None → IsExpression command.now
+            → IfOk result (λ text. StandAgain (LeavesIfAny (Some command.now) (Ok (Answer.Lines text))) b L.conduct (L.world self.new.talk.memory.below.below.below.link) self.new.first self.new.second st) }
         ensures evaluated { (b : Behaviour) (hs : Hosts) (st : SessionState) → Represents b L.conduct (L.world self.old.talk.memory.below.below.below.link) self.old.first self.old.second self.old.mode self.old.limit hs st → refused_by_state st.state command.now ≡ None → IsExpression command.now → TalksWell (L.faults self.old.talk.memory.below.below.below.link) (L.faults self.new.talk.memory.below.below.below.link) (Unit {0}) result }
         ensures count { CountsAsk (L.faults self.old.talk.memory.below.below.below.link) (L.faults self.new.talk.memory.below.below.below.link) result }
     {

@@ -19,9 +19,9 @@ use Rattle.session.proofs.Asking.{none_mapped}
 use Rattle.session.proofs.Counting.{fault_on}
 use Rattle.session.proofs.Wanting.{one_stays, stands_same, same_numbers, first_wanted, given_again}
 use Rattle.session.proofs.Storing.{stored_back, undone_unbroken, done_unbroken, first_numbers, both_numbers}
-use Rattle.session.specs.Kept.{IsUndone}
+use Rattle.session.specs.Kept.{IsFailure, IsUndone}
 use Rattle.table_asks.specs.Faults.{IsUnbroken}
-use Rattle.session.proofs.Looked.{only_well, fails_on, second_well, undone_counts, undone_wants}
+use Rattle.session.proofs.Looked.{both_look, look_alone, well_there, only_well, fails_on, second_well, undone_counts, undone_wants}
 use Rattle.session.proofs.AskingBoth.{IsAnswer, failure_or, text_sets, text_query, unwanted, breaks_or, alone_or, alone_no_text, look_no_text, look_sets, sets_bare, sets_inquiry, first_back, undone_both, second_told, second_failed, second_wanted}
 use Rattle.session.proofs.both.asked_behind.Goals as goal
 
@@ -212,3 +212,37 @@ returns-in-NoMemory-clause-stores g c = λ b hs st there ready is u.
     subst (λ (z : _). StandAgain WithNumbers b g.L.Link.conduct (g.L.Link.world z.memory.below.below.below.link) c.given_up.new.first (Some c.asked-more.new.side) st) (sym (c.given_up.ensures.other (text_sets c.args.command.now is)).1)
     (both_numbers b g.L.Link.conduct o o1 first c.given_up.new.first (c.given_up.ensures.which ∙ c.asked-said.ensures.which) st o2 second c.asked-more.new.side c.asked-more.ensures.which
     (λ h beside a x r k. c.in-Err-more.ensures.stores b h beside a x r k is (subst (λ (z : AskFault). IsUnbroken z) (sym c.in-NoMemory.is) tt)) hs there ready back)
+
+-- ---- what is done, and stores nothing
+
+pub returns-in-Ok-more-clause-leaves : goal.returns-in-Ok-more-clause-leaves
+returns-in-Ok-more-clause-leaves g c = λ b hs st there ready look query.
+    both_look b g.L.Link.conduct (g.L.Link.world c.args.talk.now.memory.below.below.below.link) (g.L.Link.world c.asked-said.new.talk.memory.below.below.below.link) (g.L.Link.world c.asked-more.new.talk.memory.below.below.below.link) c.args.first.now c.asked-said.new.side c.args.second.now c.asked-more.new.side hs st there ready
+    (record { which = c.asked-said.ensures.which; same = c.asked-said.ensures.same; kept = c.asked-said.ensures.query query; table = c.asked-said.ensures.table (look_alone c.args.command.now look) })
+    (record { which = c.asked-more.ensures.which; same = c.asked-more.ensures.same; kept = c.asked-more.ensures.query query; table = c.asked-more.ensures.table (look_alone c.args.command.now look) })
+    (c.in-Ok-said.ensures.looked b hs.first hs.second there.first_there look)
+    (λ h beside x. c.in-Ok-more.ensures.looked b h beside x look)
+
+pub returns-in-Refused-clause-leaves : goal.returns-in-Refused-clause-leaves
+returns-in-Refused-clause-leaves g c = λ b hs st there ready look query.
+    both_look b g.L.Link.conduct (g.L.Link.world c.args.talk.now.memory.below.below.below.link) (g.L.Link.world c.asked-said.new.talk.memory.below.below.below.link) (g.L.Link.world c.asked-more.new.talk.memory.below.below.below.link) c.args.first.now c.asked-said.new.side c.args.second.now c.asked-more.new.side hs st there ready
+    (record { which = c.asked-said.ensures.which; same = c.asked-said.ensures.same; kept = c.asked-said.ensures.query query; table = c.asked-said.ensures.table (look_alone c.args.command.now look) })
+    (record { which = c.asked-more.ensures.which; same = c.asked-more.ensures.same; kept = c.asked-more.ensures.query query; table = c.asked-more.ensures.table (look_alone c.args.command.now look) })
+    (c.in-Ok-said.ensures.looked b hs.first hs.second there.first_there look)
+    (λ h beside x. well_there (g.L.Link.faults c.asked-said.new.talk.memory.below.below.below.link) (g.L.Link.faults c.asked-more.new.talk.memory.below.below.below.link) _ c.in-Err-more.fault (subst (λ (e : AskFault). IsFailure e → ⊥) (sym c.in-Refused.is) (λ n. n)) (c.in-Err-more.ensures.looked b h beside x look))
+
+pub returns-in-Raised-clause-leaves : goal.returns-in-Raised-clause-leaves
+returns-in-Raised-clause-leaves g c = λ b hs st there ready look query.
+    both_look b g.L.Link.conduct (g.L.Link.world c.args.talk.now.memory.below.below.below.link) (g.L.Link.world c.asked-said.new.talk.memory.below.below.below.link) (g.L.Link.world c.asked-more.new.talk.memory.below.below.below.link) c.args.first.now c.asked-said.new.side c.args.second.now c.asked-more.new.side hs st there ready
+    (record { which = c.asked-said.ensures.which; same = c.asked-said.ensures.same; kept = c.asked-said.ensures.query query; table = c.asked-said.ensures.table (look_alone c.args.command.now look) })
+    (record { which = c.asked-more.ensures.which; same = c.asked-more.ensures.same; kept = c.asked-more.ensures.query query; table = c.asked-more.ensures.table (look_alone c.args.command.now look) })
+    (c.in-Ok-said.ensures.looked b hs.first hs.second there.first_there look)
+    (λ h beside x. well_there (g.L.Link.faults c.asked-said.new.talk.memory.below.below.below.link) (g.L.Link.faults c.asked-more.new.talk.memory.below.below.below.link) _ c.in-Err-more.fault (subst (λ (e : AskFault). IsFailure e → ⊥) (sym c.in-Raised.is) (λ n. n)) (c.in-Err-more.ensures.looked b h beside x look))
+
+pub returns-in-Spent-clause-leaves : goal.returns-in-Spent-clause-leaves
+returns-in-Spent-clause-leaves g c = λ b hs st there ready look query.
+    both_look b g.L.Link.conduct (g.L.Link.world c.args.talk.now.memory.below.below.below.link) (g.L.Link.world c.asked-said.new.talk.memory.below.below.below.link) (g.L.Link.world c.asked-more.new.talk.memory.below.below.below.link) c.args.first.now c.asked-said.new.side c.args.second.now c.asked-more.new.side hs st there ready
+    (record { which = c.asked-said.ensures.which; same = c.asked-said.ensures.same; kept = c.asked-said.ensures.query query; table = c.asked-said.ensures.table (look_alone c.args.command.now look) })
+    (record { which = c.asked-more.ensures.which; same = c.asked-more.ensures.same; kept = c.asked-more.ensures.query query; table = c.asked-more.ensures.table (look_alone c.args.command.now look) })
+    (c.in-Ok-said.ensures.looked b hs.first hs.second there.first_there look)
+    (λ h beside x. well_there (g.L.Link.faults c.asked-said.new.talk.memory.below.below.below.link) (g.L.Link.faults c.asked-more.new.talk.memory.below.below.below.link) _ c.in-Err-more.fault (subst (λ (e : AskFault). IsFailure e → ⊥) (sym c.in-Spent.is) (λ n. n)) (c.in-Err-more.ensures.looked b h beside x look))

@@ -74,3 +74,9 @@ returns-clause-stores g c = λ b hs st there ready text is.
     let y = c.in-Ok.ensures.read b hs.first hs.second there.first_there.stands there.first_there.order in
     let now = still_there b g.L.Link.conduct (g.L.Link.world c.args.talk.now.memory.below.below.below.link) (g.L.Link.world c.words_before.new.talk.memory.below.below.below.link) c.args.first.now c.args.second.now hs.first hs.second there y.1 in
     c.asked_behind.ensures.stores b hs st now ready text is
+
+pub returns-clause-leaves : goal.returns-clause-leaves
+returns-clause-leaves g c = λ b hs st there ready look query.
+    let y = c.in-Ok.ensures.read b hs.first hs.second there.first_there.stands there.first_there.order in
+    let now = still_there b g.L.Link.conduct (g.L.Link.world c.args.talk.now.memory.below.below.below.link) (g.L.Link.world c.words_before.new.talk.memory.below.below.below.link) c.args.first.now c.args.second.now hs.first hs.second there y.1 in
+    c.asked_behind.ensures.leaves b hs st now ready look query

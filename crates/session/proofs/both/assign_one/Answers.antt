@@ -1,4 +1,4 @@
-use Rattle.std.proofs.Common.{◌∙◌, ℕ, List, sym, subst, Err}
+use Rattle.std.proofs.Common.{◌∙◌, ℕ, List, sym, subst, Err, IfErr}
 use Rattle.ps_step.specs.declared.fault.PsError.TheVariants.{RangeCheck}
 use Rattle.table_asks.specs.declared.fault.AskFault.{AskFault}
 use Rattle.session.specs.Counted.{CountsFault}
@@ -7,7 +7,10 @@ use Rattle.session.proofs.Counting.{counts_on}
 use Rattle.session.specs.Meant.{debugged}
 use Rattle.session.proofs.Wanting.{ran_same, side_stays}
 use Rattle.session.proofs.Ending.{set_else, outside_else}
-use Rattle.session.proofs.Looked.{stays_well, only_well, well_on, undone_there, unset_counts, unset_well}
+use Rattle.session.proofs.Looked.{stays_well, only_well, well_on, undone_there, unset_counts, unset_well, on_ok, unbroken_there}
+use Rattle.table_asks.specs.Faults.{IsUnbroken}
+use Rattle.session.specs.Wanting.{StoresOne}
+use Rattle.session.proofs.Storing.{put_stores}
 use Rattle.session.proofs.both.assign_one.Goals as goal
 
 pub returns-in-Err-clause-count : goal.returns-in-Err-clause-count
@@ -41,3 +44,14 @@ returns-in-Err-clause-stays g c = λ b h beside a there ready none u. record { t
 
 pub returns-in-Ok-assigned-clause-word : goal.returns-in-Ok-assigned-clause-word
 returns-in-Ok-assigned-clause-word g c = c.stored.ensures.word (set_else c.in-Ok.said.set c.in-Ok.ensures.ok.0) (outside_else RangeCheck c.in-Ok.said.outside c.in-Ok.ensures.ok.1)
+
+pub returns-in-Ok-assigned-clause-leaves : goal.returns-in-Ok-assigned-clause-leaves
+returns-in-Ok-assigned-clause-leaves g c = λ b h beside a there ready none.
+    let f = g.L.Link.faults c.assigned.new.talk.memory.below.below.below.link in
+    let f1 = g.L.Link.faults c.store.new.talk.memory.below.below.below.link in
+    let o = g.L.Link.world c.args.talk.now.memory.below.below.below.link in
+    let o1 = g.L.Link.world c.store.new.talk.memory.below.below.below.link in
+    let first = c.args.first.now in
+    let one = c.assigned.new.side in
+    on_ok (IfErr c.store.result (λ (e : AskFault). IsUnbroken e)) (λ x. StoresOne b g.L.Link.conduct o1 first one h beside a) c.stored.result
+    (λ x u. put_stores b g.L.Link.conduct o o1 first one h beside there a ready none c.assigned.ensures.same c.assigned.ensures.table (unbroken_there f f1 _ c.store.result u (c.store.ensures.stores b h beside (c.in-Ok-assigned.ensures.evaluated b h beside there)))) c.stored.ensures.done

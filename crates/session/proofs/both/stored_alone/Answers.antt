@@ -1,4 +1,8 @@
-use Rattle.session.proofs.Looked.{stays_well}
+use Rattle.std.proofs.Common.{IfErr}
+use Rattle.table_asks.specs.declared.fault.AskFault.{AskFault}
+use Rattle.table_asks.specs.Faults.{IsUnbroken}
+use Rattle.session.specs.Meant.{StoredThere}
+use Rattle.session.proofs.Looked.{stays_well, on_ok, unbroken_there}
 use Rattle.session.proofs.both.stored_alone.Goals as goal
 
 pub returns-then-is_failure-clause-stores : goal.returns-then-is_failure-clause-stores
@@ -21,3 +25,10 @@ returns-then-is_failure-clause-whole g c = λ n u. absurd (n (c.is_failure.ensur
 
 pub returns-clause-whole : goal.returns-clause-whole
 returns-clause-whole g c = λ n u. c.stored.ensures.whole c.store.ensures.last u
+
+pub returns-clause-leaves : goal.returns-clause-leaves
+returns-clause-leaves g c = λ b h beside n there.
+    let f = g.L.Link.faults c.args.talk.now.memory.below.below.below.link in
+    let f1 = g.L.Link.faults c.store.new.talk.memory.below.below.below.link in
+    let There = StoredThere b g.L.Link.conduct (g.L.Link.world c.store.new.talk.memory.below.below.below.link) c.args.first.now h beside in
+    on_ok (IfErr c.store.result (λ (e : AskFault). IsUnbroken e)) (λ x. There) c.stored.result (λ x u. unbroken_there f f1 There c.store.result u (c.store.ensures.stores b h beside there)) c.stored.ensures.done

@@ -1,12 +1,13 @@
 use Rattle.std.proofs.Common.{subst, ℕ, List, Option}
 use Rattle.machine_state.specs.State.{Behaviour}
 use Rattle.claims.specs.Side.{SessionState}
-use Rattle.session.specs.Meant.{debugged, Hosts, AreThere, AreReadyFor}
+use Rattle.session.specs.Meant.{debugged, Hosts, IsThere, AreThere, AreReadyFor}
+use Rattle.session.specs.Wanting.{WithTable, StandAgain}
 use Rattle.session.specs.declared.sides.SideRecord.{SideRecord}
 use Rattle.side_meaning.proofs.Starting.{no_words}
 use Rattle.session.proofs.Wanting.{first_wanted}
 use Rattle.session.proofs.Storing.{first_numbers, result_unbroken}
-use Rattle.session.proofs.Looked.{stays_well}
+use Rattle.session.proofs.Looked.{stays_well, on_done, look_stays, look_alone}
 use Rattle.session.proofs.AskingOne.{asked_alone}
 use Rattle.session.proofs.conversation.Session.ask.Goals as goal
 
@@ -52,3 +53,20 @@ pub returns-in-Some-clause-stores : goal.returns-in-Some-clause-stores
 returns-in-Some-clause-stores g c = λ (b : Behaviour) (hs : Hosts) (st : SessionState) there ready text is.
     let now = c.args.self.now in
     c.asked_both.ensures.stores b hs st (subst (λ (s : Option SideRecord). AreThere b g.L.Link.conduct (g.L.Link.world now.talk.memory.below.below.below.link) now.first s hs) c.in-Some.is there) (subst (λ (s : Option SideRecord). AreReadyFor now.first s hs st) c.in-Some.is ready) text is
+
+pub returns-in-None-clause-leaves : goal.returns-in-None-clause-leaves
+returns-in-None-clause-leaves g c = λ (b : Behaviour) (hs : Hosts) (st : SessionState) there ready look query.
+    let now = c.args.self.now in
+    let o = g.L.Link.world now.talk.memory.below.below.below.link in
+    let o1 = g.L.Link.world c.asked.new.talk.memory.below.below.below.link in
+    let side = c.asked.new.side in
+    on_done (g.L.Link.faults now.talk.memory.below.below.below.link) (g.L.Link.faults c.asked.new.talk.memory.below.below.below.link) (IsThere b g.L.Link.conduct o1 side hs.first hs.second) (StandAgain WithTable b g.L.Link.conduct o1 side now.second st) c.asked.result
+    (λ x. first_wanted b g.L.Link.conduct st ready.still o o1 now.first side now.second hs there ready.sides c.asked.ensures.which
+    (look_stays b g.L.Link.conduct o o1 now.first side hs.first hs.second st.first there.first_there ready.ready.0 (no_words st.state (debugged now.first hs.first) st.first ready.still ready.sides.first)
+    (record { which = c.asked.ensures.which; same = c.asked.ensures.same; kept = c.asked.ensures.query query; table = c.asked.ensures.table (look_alone c.args.command.now look) }) x))
+    (c.asked.ensures.looked b hs.first hs.second there.first_there look)
+
+pub returns-in-Some-clause-leaves : goal.returns-in-Some-clause-leaves
+returns-in-Some-clause-leaves g c = λ (b : Behaviour) (hs : Hosts) (st : SessionState) there ready look query.
+    let now = c.args.self.now in
+    c.asked_both.ensures.leaves b hs st (subst (λ (s : Option SideRecord). AreThere b g.L.Link.conduct (g.L.Link.world now.talk.memory.below.below.below.link) now.first s hs) c.in-Some.is there) (subst (λ (s : Option SideRecord). AreReadyFor now.first s hs st) c.in-Some.is ready) look query

@@ -10,7 +10,8 @@ use Rattle.claims.specs.Outcome.{refused_by_state}
 use Rattle.session.specs.Answered.{state_of, refusal_reply, line_reply, Replies}
 use Rattle.session.specs.Kept.{IsQuery}
 use Rattle.session.specs.Meant.{Hosts, AnswersAs, MeantAnswers, IsSaidIfAny}
-use Rattle.session.specs.Wanting.{LeavesIfAny, RepresentsAgain}
+use Rattle.session.specs.declared.answers.Answer.TheVariants.{NoMemory}
+use Rattle.session.specs.Wanting.{LeavesIfAny, LeavesTarget, RepresentsAgain}
 use Rattle.session.proofs.Tallying.{same_counts}
 use Rattle.session.proofs.Wanting.{represents_same, same_leaves_if_any}
 use Rattle.session.proofs.Answering.{refuses}
@@ -42,12 +43,12 @@ returns-in-Ok g c = record {
       subst (λ (r : Option Command). AnswersAs b g.L.Link.conduct (g.L.Link.world new.talk.memory.below.below.below.link) new.first new.second new.mode new.limit st (g.O.Sink.taken c.args.out.now) (g.O.Sink.taken c.obey.new.out) (MeantAnswers b st r)
       (g.L.Link.faults now.talk.memory.below.below.below.link) (g.L.Link.faults new.talk.memory.below.below.below.link) now.broken c.obey.result) (sym ok)
       (c.obey.ensures.meant b hs st steady x (subst (λ (r : Option Command). IsSaidIfAny r) ok said) no);
-  stays = λ (b : Behaviour) (hs : Hosts) (st : SessionState) x is.
+  stays = λ (b : Behaviour) (hs : Hosts) (st : SessionState) x is m.
       let now = c.args.self.now in
       let new = c.obey.new.self in
       let ok : read_of now.raw c.args.line.now ≡ Some c.in-Ok.command = c.in-Ok.ensures.ok in
       let no : c.in-Ok.command ≢ Quit = search rules in
-      subst (λ (r : Option Command). RepresentsAgain (LeavesIfAny r) b g.L.Link.conduct (g.L.Link.world new.talk.memory.below.below.below.link) new.first new.second new.mode new.limit st) (sym ok) (c.obey.ensures.stays b hs st x no is);
+      subst (λ (r : Option Command). RepresentsAgain (LeavesIfAny r c.obey.result) b g.L.Link.conduct (g.L.Link.world new.talk.memory.below.below.below.link) new.first new.second new.mode new.limit st) (sym ok) (c.obey.ensures.stays b hs st x no (subst (λ (r : Option Command). LeavesTarget r c.obey.result) ok is) m);
   target = λ (b : Behaviour) (hs : Hosts) (st : SessionState) d x h n m.
       let same : c.in-Ok.command ≡ d = cc (c.in-Ok.ensures.ok, h) in
       let no : c.in-Ok.command ≢ Quit = search rules in
@@ -73,14 +74,14 @@ pub returns-in-Err-Line-clause-count : goal.returns-in-Err-Line-clause-count
 returns-in-Err-Line-clause-count g c = same_counts (g.L.Link.faults c.args.self.now.talk.memory.below.below.below.link) (g.L.Link.faults c.args.self.now.talk.memory.below.below.below.link) c.args.self.now.broken c.args.self.now.mode c.malformed.result refl
 
 pub returns-in-Err-Line-clause-stays : goal.returns-in-Err-Line-clause-stays
-returns-in-Err-Line-clause-stays g c = λ b hs st x is.
+returns-in-Err-Line-clause-stays g c = λ b hs st x is m.
     let now = c.args.self.now in
-    represents_same (LeavesIfAny (read_of now.raw c.args.line.now)) (λ a. same_leaves_if_any (read_of now.raw c.args.line.now) a) b g.L.Link.conduct (g.L.Link.world now.talk.memory.below.below.below.link) now.first now.second now.mode now.limit hs st x
+    represents_same (LeavesIfAny (read_of now.raw c.args.line.now) (Ok c.malformed.result)) (λ a. same_leaves_if_any (read_of now.raw c.args.line.now) (Ok c.malformed.result) a) b g.L.Link.conduct (g.L.Link.world now.talk.memory.below.below.below.link) now.first now.second now.mode now.limit hs st x
 
 pub returns-in-Err-NoMemory-clause-stays : goal.returns-in-Err-NoMemory-clause-stays
-returns-in-Err-NoMemory-clause-stays g c = λ b hs st x is.
+returns-in-Err-NoMemory-clause-stays g c = λ b hs st x is m.
     let now = c.args.self.now in
-    represents_same (LeavesIfAny (read_of now.raw c.args.line.now)) (λ a. same_leaves_if_any (read_of now.raw c.args.line.now) a) b g.L.Link.conduct (g.L.Link.world now.talk.memory.below.below.below.link) now.first now.second now.mode now.limit hs st x
+    represents_same (LeavesIfAny (read_of now.raw c.args.line.now) (Ok NoMemory)) (λ a. same_leaves_if_any (read_of now.raw c.args.line.now) (Ok NoMemory) a) b g.L.Link.conduct (g.L.Link.world now.talk.memory.below.below.below.link) now.first now.second now.mode now.limit hs st x
 
 -- ---- what the writes leave, and what ends the session
 

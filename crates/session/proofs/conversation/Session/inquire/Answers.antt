@@ -1,4 +1,4 @@
-use Rattle.std.proofs.Common.{rules, ◌≡◌, sym, subst, ℕ, List, None, IfOk}
+use Rattle.std.proofs.Common.{rules, ◌≡◌, sym, subst, ℕ, List, None, IfOk, Some, Ok}
 use Rattle.machine_state.specs.State.{Behaviour}
 use Rattle.c_session.specs.declared.command.Command.{Command}
 use Rattle.c_session.specs.declared.command.Command.TheVariants as command
@@ -6,13 +6,14 @@ use Rattle.claims.specs.Side.{SessionState}
 use Rattle.claims.specs.Outcome.{DoneOnBoth, AnswersCommand, refused_by_state}
 use Rattle.side_meaning.specs.Sessions.{SidesStand}
 use Rattle.session.specs.Meant.{Hosts, AreThere, sides_of, ComesTo, SaidAll, NotAll, IsExpression}
-use Rattle.session.specs.Wanting.{WithTable, WithNumbers, Leaves}
+use Rattle.session.specs.Wanting.{WithTable, WithNumbers, Leaves, LeavesIfAny, StandAgain}
 use Rattle.session.specs.Kept.{SaysDone}
 use Rattle.session.proofs.Counting.{counts_on}
 use Rattle.session.proofs.Ending.{regs_else}
-use Rattle.session.proofs.Wanting.{stands_same, same_leaves, again_as, table_leaves, numbers_leave}
-use Rattle.session.proofs.Looked.{well_on, undone_as, undone_regs, unit_well}
-use Rattle.session.proofs.Tallying.{alone_still, inquired_or, text_inquiry, expression_still, expression_look}
+use Rattle.session.proofs.Wanting.{stands_same, same_leaves, again_as, table_leaves, numbers_leave, leaves_if_any, numbers_leave_if_any}
+use Rattle.session.proofs.Looked.{well_on, undone_as, undone_regs, unit_well, on_ok}
+use Rattle.session.proofs.Tallying.{alone_still, inquired_or, text_inquiry, expression_still, expression_look, expression_query}
+use Rattle.session.specs.declared.answers.Answer.TheVariants as answer
 use Rattle.session.proofs.AskingOne.{inquiry_answers, inquiry_for, asked_still, regs_by, said_since, regs_since}
 use Rattle.session.proofs.conversation.Session.inquire.Goals as goal
 
@@ -66,6 +67,14 @@ returns-in_default g c = record {
       (λ text.
       let y = c.in-Ok.ensures.meant b hs st x (asked_still st.state cmd (text_inquiry cmd text) e) in
       again_as WithNumbers (Leaves cmd) (numbers_leave cmd text) b g.L.Link.conduct o new.first new.second st (c.ask.ensures.stores b y.hosts st y.there y.ready text is));
+  leaves = λ (b : Behaviour) (hs : Hosts) (st : SessionState) x e expression.
+      let cmd = c.args.command.now in
+      let new = c.ask.new.self in
+      let o = g.L.Link.world new.talk.memory.below.below.below.link in
+      let y = c.in-Ok.ensures.meant b hs st x (expression_still st.state cmd expression e) in
+      on_ok (StandAgain WithTable b g.L.Link.conduct o new.first new.second st) (λ text. StandAgain (LeavesIfAny (Some cmd) (Ok (answer.Lines text))) b g.L.Link.conduct o new.first new.second st) c.ask.result
+      (λ text s. again_as WithTable (LeavesIfAny (Some cmd) (Ok (answer.Lines text))) (λ a a' h. leaves_if_any cmd (Ok (answer.Lines text)) a a' (table_leaves cmd a a' h)) b g.L.Link.conduct o new.first new.second st s)
+      (c.ask.ensures.leaves b y.hosts st y.there y.ready (expression_look cmd expression c.in_default.not-Assign) (expression_query cmd expression));
   evaluated = λ (b : Behaviour) (hs : Hosts) (st : SessionState) x e expression.
       let cmd = c.args.command.now in
       let y = c.in-Ok.ensures.meant b hs st x (expression_still st.state cmd expression e) in
@@ -124,3 +133,16 @@ returns-in-Regs-clause-word g c = subst (λ (d : Command). IfOk c.registers.resu
 
 pub returns-in-Assign-clause-word : goal.returns-in-Assign-clause-word
 returns-in-Assign-clause-word g c = subst (λ (d : Command). IfOk c.assign.result (λ text. SaysDone d text)) (sym c.in-Assign.is) c.assign.ensures.word
+
+pub returns-in-Assign-clause-leaves : goal.returns-in-Assign-clause-leaves
+returns-in-Assign-clause-leaves g c = λ (b : Behaviour) (hs : Hosts) (st : SessionState) x e expression.
+    let cmd = c.args.command.now in
+    let new = c.assign.new.self in
+    let o = g.L.Link.world new.talk.memory.below.below.below.link in
+    let y = c.in-Ok.ensures.meant b hs st x (expression_still st.state cmd expression e) in
+    on_ok (StandAgain WithNumbers b g.L.Link.conduct o new.first new.second st) (λ text. StandAgain (LeavesIfAny (Some cmd) (Ok (answer.Lines text))) b g.L.Link.conduct o new.first new.second st) c.assign.result
+    (λ text s. again_as WithNumbers (LeavesIfAny (Some cmd) (Ok (answer.Lines text))) (numbers_leave_if_any cmd c.in-Assign.text text c.in-Assign.is) b g.L.Link.conduct o new.first new.second st s)
+    (c.assign.ensures.leaves b y.hosts st y.there y.ready)
+
+pub returns-in-Regs-clause-leaves : goal.returns-in-Regs-clause-leaves
+returns-in-Regs-clause-leaves g c = λ b hs st x e expression. absurd (subst IsExpression c.in-Regs.is expression)

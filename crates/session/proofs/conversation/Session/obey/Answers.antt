@@ -4,13 +4,14 @@ use Rattle.c_session.specs.declared.command.Command.TheVariants as command
 use Rattle.c_session.specs.Commands.{ByStep, ByContinue}
 use Rattle.claims.specs.Outcome.{refused_by_state, AnswersCommand}
 use Rattle.session.specs.Answered.{state_of, reason_of, refusal_reply, limit_reply, Replies}
-use Rattle.session.specs.Meant.{AnswersAs, MeantAnswers, ResumesAs, SaidAll, NotAll}
+use Rattle.session.specs.Meant.{AnswersAs, MeantAnswers, ResumesAs, SaidAll, NotAll, IsExpression}
 use Rattle.session.specs.declared.sides.SideRecord.{SideRecord}
 use Rattle.session.specs.declared.answers.Answer.TheVariants.{NoMemory}
 use Rattle.session.specs.Counted.{CountsAnswer, CountsAsk}
-use Rattle.session.specs.Wanting.{Leaves, WithTable, RepresentsAgain, StandAgain}
-use Rattle.session.proofs.Wanting.{represents_again, represents_as, represents_same, same_leaves, table_leaves}
-use Rattle.session.proofs.Tallying.{answer_is, same_counts, said_counts, asks_or, comes_well, target_told, is_inquired}
+use Rattle.session.specs.declared.modes.Mode.{Mode}
+use Rattle.session.specs.Wanting.{LeavesIfAny, WithTable, RepresentsAgain, StandAgain}
+use Rattle.session.proofs.Wanting.{again_as, represents_again, represents_as, represents_same, same_leaves_if_any, leaves_if_any, table_leaves}
+use Rattle.session.proofs.Tallying.{answer_is, same_counts, said_counts, asks_or, comes_well, target_told, is_inquired, only_wants, answer_again, unended}
 use Rattle.session.specs.Kept.{IsKept, AreKept, TellsTrouble}
 use Rattle.session.proofs.Answering.{undone_leaves, refuses, refused, unrefused, answers_to, says_lines, new_limit, limit_line, replied, left_so, askable, continue_resumes, step_resumes}
 use Rattle.session.proofs.Ending.{said_so, answers_else, lines_else, none_else, refusal_else, limit_else, resume_ends, said_ends}
@@ -108,37 +109,43 @@ pub returns-in-Some-clause-count : goal.returns-in-Some-clause-count
 returns-in-Some-clause-count g c = same_counts (g.L.Link.faults c.args.self.now.talk.memory.below.below.below.link) (g.L.Link.faults c.args.self.now.talk.memory.below.below.below.link) c.args.self.now.broken c.args.self.now.mode c.answer.result refl
 
 pub returns-in-Some-clause-stays : goal.returns-in-Some-clause-stays
-returns-in-Some-clause-stays g c = λ b hs st x q is.
+returns-in-Some-clause-stays g c = λ b hs st x q is m.
     let now = c.args.self.now in
-    represents_same (Leaves c.args.command.now) (λ a. same_leaves c.args.command.now a) b g.L.Link.conduct (g.L.Link.world now.talk.memory.below.below.below.link) now.first now.second now.mode now.limit hs st x
+    let cmd = c.args.command.now in
+    represents_same (LeavesIfAny (Some cmd) (Ok c.answer.result)) (λ a. same_leaves_if_any (Some cmd) (Ok c.answer.result) a) b g.L.Link.conduct (g.L.Link.world now.talk.memory.below.below.below.link) now.first now.second now.mode now.limit hs st x
 
 pub returns-in-Continue-clause-stays : goal.returns-in-Continue-clause-stays
-returns-in-Continue-clause-stays g c = λ b hs st x q is.
-    let e = ap (λ s. refused_by_state s c.args.command.now) x.state ∙ sym c.in_default.ensures in
+returns-in-Continue-clause-stays g c = λ b hs st x q is m.
+    let cmd = c.args.command.now in
+    let e = ap (λ s. refused_by_state s cmd) x.state ∙ sym c.in_default.ensures in
     let new = c.resume.new.self in
-    represents_as WithTable (Leaves c.args.command.now) (table_leaves c.args.command.now) b g.L.Link.conduct (g.L.Link.world new.talk.memory.below.below.below.link) new.first new.second new.mode new.limit st
-    (c.resume.ensures.stays b hs st x (continue_resumes st.state (subst (λ d. refused_by_state st.state d ≡ None) c.in-Continue.is e)) is)
+    represents_as WithTable (LeavesIfAny (Some cmd) c.resume.result) (λ a a' h. leaves_if_any cmd c.resume.result a a' (table_leaves cmd a a' h)) b g.L.Link.conduct (g.L.Link.world new.talk.memory.below.below.below.link) new.first new.second new.mode new.limit st
+    (c.resume.ensures.stays b hs st x (continue_resumes st.state (subst (λ d. refused_by_state st.state d ≡ None) c.in-Continue.is e)) (only_wants cmd c.resume.result (λ h. subst IsExpression c.in-Continue.is h) is))
 
 pub returns-in-Continue-clause-target : goal.returns-in-Continue-clause-target
 returns-in-Continue-clause-target g c = λ b hs st x n m q. absurd (n c.in-Continue.is)
 
 pub returns-in-Step-clause-stays : goal.returns-in-Step-clause-stays
-returns-in-Step-clause-stays g c = λ b hs st x q is.
-    let e = ap (λ s. refused_by_state s c.args.command.now) x.state ∙ sym c.in_default.ensures in
+returns-in-Step-clause-stays g c = λ b hs st x q is m.
+    let cmd = c.args.command.now in
+    let e = ap (λ s. refused_by_state s cmd) x.state ∙ sym c.in_default.ensures in
     let new = c.resume-in-Step.new.self in
-    represents_as WithTable (Leaves c.args.command.now) (table_leaves c.args.command.now) b g.L.Link.conduct (g.L.Link.world new.talk.memory.below.below.below.link) new.first new.second new.mode new.limit st
-    (c.resume-in-Step.ensures.stays b hs st x (step_resumes st.state (subst (λ d. refused_by_state st.state d ≡ None) c.in-Step.is e)) is)
+    represents_as WithTable (LeavesIfAny (Some cmd) c.resume-in-Step.result) (λ a a' h. leaves_if_any cmd c.resume-in-Step.result a a' (table_leaves cmd a a' h)) b g.L.Link.conduct (g.L.Link.world new.talk.memory.below.below.below.link) new.first new.second new.mode new.limit st
+    (c.resume-in-Step.ensures.stays b hs st x (step_resumes st.state (subst (λ d. refused_by_state st.state d ≡ None) c.in-Step.is e)) (only_wants cmd c.resume-in-Step.result (λ h. subst IsExpression c.in-Step.is h) is))
 
 pub returns-in-Step-clause-target : goal.returns-in-Step-clause-target
 returns-in-Step-clause-target g c = λ b hs st x n m q. absurd (m c.in-Step.is)
 
 pub returns-in-Turns-clause-stays : goal.returns-in-Turns-clause-stays
-returns-in-Turns-clause-stays g c = λ b hs st x q is.
+returns-in-Turns-clause-stays g c = λ b hs st x q is m.
     let now = c.args.self.now in
+    let cmd = c.args.command.now in
+    let P = LeavesIfAny (Some cmd) (Ok c.set_limit.result) in
+    let wants = answer_is c.set_limit.result NoMemory (only_wants cmd (Ok c.set_limit.result) (λ h. subst IsExpression c.in-Turns.is h) is) in
     elim c.set_limit.ensures [
-      | inl h ↦ absurd (let e = sym h.0 ∙ answer_is c.set_limit.result NoMemory is in cc)
-      | inr h ↦ subst (λ s. RepresentsAgain (Leaves c.args.command.now) b g.L.Link.conduct (g.L.Link.world s.talk.memory.below.below.below.link) s.first s.second s.mode s.limit st) (sym h.1)
-          (represents_same (Leaves c.args.command.now) (λ a. same_leaves c.args.command.now a) b g.L.Link.conduct (g.L.Link.world now.talk.memory.below.below.below.link) now.first now.second now.mode now.limit hs st x)
+      | inl h ↦ absurd (let e = sym h.0 ∙ wants in cc)
+      | inr h ↦ subst (λ s. RepresentsAgain P b g.L.Link.conduct (g.L.Link.world s.talk.memory.below.below.below.link) s.first s.second s.mode s.limit st) (sym h.1)
+          (represents_same P (λ a. same_leaves_if_any (Some cmd) (Ok c.set_limit.result) a) b g.L.Link.conduct (g.L.Link.world now.talk.memory.below.below.below.link) now.first now.second now.mode now.limit hs st x)
     ]
 
 pub returns-in-Turns-clause-target : goal.returns-in-Turns-clause-target
@@ -173,17 +180,21 @@ returns-in_default-command-clause-target g c = λ b hs st x n m q.
     (λ expression. target_told (g.L.Link.faults now.talk.memory.below.below.below.link) (g.L.Link.faults mid.talk.memory.below.below.below.link) (g.L.Link.faults new.talk.memory.below.below.below.link) mid.broken now.mode mid.mode new.mode c.inquire-said.result c.reply.result link c.inquire-said.ensures.mode (c.inquire-said.ensures.evaluated b hs st x e expression) c.reply.ensures.ok c.reply.ensures.fault)
 
 pub returns-in_default-command-clause-stays : goal.returns-in_default-command-clause-stays
-returns-in_default-command-clause-stays g c = λ b hs st x q is.
+returns-in_default-command-clause-stays g c = λ b hs st x q is m.
+    let now = c.args.self.now in
     let mid = c.inquire-said.new.self in
     let new = c.reply.new.self in
     let cmd = c.args.command.now in
     let d = c.in_default-command in
+    let P = LeavesIfAny (Some cmd) (Ok c.reply.result) in
     let e = ap (λ s. refused_by_state s cmd) x.state ∙ sym c.in_default.ensures in
-    let none = c.reply.ensures.no_memory (answer_is c.reply.result NoMemory is) in
-    let again = c.inquire-said.ensures.stays b hs st x e (is_inquired cmd d.not-Continue d.not-Step d.not-Turns q) none.0 in
-    represents_again (Leaves c.args.command.now) b g.L.Link.conduct (g.L.Link.world new.talk.memory.below.below.below.link) new.first new.second new.mode new.limit st (x.state ∙ ap (λ m. state_of m) (sym (none.1 ∙ c.inquire-said.ensures.mode))) (x.limit_is ∙ sym (c.reply.ensures.limit ∙ c.inquire-said.ensures.limit))
-    (subst (λ z. StandAgain (Leaves c.args.command.now) b g.L.Link.conduct (g.L.Link.world z.memory.below.below.below.link) new.first new.second st) (sym c.reply.ensures.talk)
-    (subst (λ z. StandAgain (Leaves c.args.command.now) b g.L.Link.conduct (g.L.Link.world mid.talk.memory.below.below.below.link) z new.second st) (sym c.reply.ensures.first) (subst (λ z. StandAgain (Leaves c.args.command.now) b g.L.Link.conduct (g.L.Link.world mid.talk.memory.below.below.below.link) mid.first z st) (sym c.reply.ensures.second) again)))
+    let o = g.L.Link.world mid.talk.memory.below.below.below.link in
+    let goes = unended mid.mode cmd q (subst (λ (z : Mode). refused_by_state (state_of z) cmd ≡ None) (sym c.inquire-said.ensures.mode) (sym c.in_default.ensures)) in
+    let again = answer_again cmd (λ Q. StandAgain Q b g.L.Link.conduct o mid.first mid.second st) (λ Q R to s. again_as Q R to b g.L.Link.conduct o mid.first mid.second st s) mid.broken mid.mode new.mode (m ∙ sym c.inquire-said.ensures.mode) goes c.reply.result
+    c.inquire-said.result (λ u. c.inquire-said.ensures.stays b hs st x e (is_inquired cmd d.not-Continue d.not-Step d.not-Turns q) u) (λ expression. c.inquire-said.ensures.leaves b hs st x e expression) c.reply.ensures.ok c.reply.ensures.fault is in
+    represents_again P b g.L.Link.conduct (g.L.Link.world new.talk.memory.below.below.below.link) new.first new.second new.mode new.limit st (x.state ∙ ap (λ z. state_of z) (sym m)) (x.limit_is ∙ sym (c.reply.ensures.limit ∙ c.inquire-said.ensures.limit))
+    (subst (λ z. StandAgain P b g.L.Link.conduct (g.L.Link.world z.memory.below.below.below.link) new.first new.second st) (sym c.reply.ensures.talk)
+    (subst (λ z. StandAgain P b g.L.Link.conduct o z new.second st) (sym c.reply.ensures.first) (subst (λ z. StandAgain P b g.L.Link.conduct o mid.first z st) (sym c.reply.ensures.second) again)))
 
 -- ---- what the writes leave, and what ends the session
 
