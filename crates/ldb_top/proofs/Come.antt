@@ -31,7 +31,7 @@ use Rattle.ldb_top.specs.Stops.{ending_of, fault_of}
 use Rattle.ldb_top.specs.Lines.{line_of, late_line, IsLine}
 use Rattle.ldb_top.specs.Why.{IsWhy, CompiledFor, BeginsAs, Opens}
 use Rattle.ldb_top.specs.Words.{Form, Debug, Go, Make, Own, form_of, form_in}
-use Rattle.ldb_top.proofs.Broken.{front_none, take_front, known_nothing}
+use Rattle.ldb_top.proofs.Growing.{front_none, take_front, known_nothing}
 
 -- ---- before the session
 

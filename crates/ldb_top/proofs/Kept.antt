@@ -1,13 +1,12 @@
 -- Files of which one is written.
-use Rattle.std.proofs.Common.{◌≡◌, ◌≢◌, ℕ, Bool, true, false, List, [], ◌++◌, cond, take, drop, ◌+◌, sym, append_assoc, Option, None, Some, Ok, Err, refl, ap, ◌∙◌, subst, is_some}
-use Rattle.std.proofs.Math.Seq.{take-add}
-use Rattle.std.specs.Prelude.{unwrap_or, IfOk, OnErr}
+use Rattle.std.proofs.Common.{◌≡◌, ◌≢◌, ℕ, Bool, true, false, List, [], ◌++◌, cond, take, Option, None, Some, Ok, Err, refl, ap, ◌∙◌, subst, is_some}
+use Rattle.std.specs.Prelude.{unwrap_or, IfOk, OnErr, IfSome, IsSome}
 use Rattle.std.specs.declared.result.Result.{Result}
 use Rattle.std.specs.Option.{option_map}
 use Rattle.std.specs.Str.{bytes_eq}
 use Rattle.std.specs.FinMap as map
 use Rattle.ldb_edge.specs.Count.{Rose, CountsFault}
-use Rattle.ldb_edge.specs.Known.{FileMap, appended}
+use Rattle.ldb_edge.specs.Known.{FileMap, appended, known_and}
 use Rattle.ldb_edge.specs.declared.outside.FileErr.{FileErr}
 use Rattle.ldb_edge.specs.declared.outside.FileErr.TheVariants.{Absent, Failed}
 use Rattle.ldb_edge.proofs.Maps.{get-insert, equal_bytes, same_bytes}
@@ -38,10 +37,10 @@ pub others_on : (name : List ℕ) (a b c : Option FileMap) → OthersKept name a
 others_on name a b c p q = (q.0 ∙ p.0, (λ other n. q.1.0 other n ∙ p.1.0 other n, λ t. q.1.1 (p.1.1 t)))
 
 -- an append to it
-pub others_appended : (name name' piece : List ℕ) (a b c : Option FileMap) (r : Result ℕ FileErr) → name' ≡ name → OthersKept name a b
-    → IfOk r (λ n. c ≡ option_map (λ files. appended files name' (take n piece)) b) → OnErr r (c ≡ b) → OthersKept name a c
-others_appended name name' piece a b c (Ok n) e k o f = others_on name a b c k (subst (λ x. OthersKept x b c) e (others_kept name' (λ files. unwrap_or (map.get files name') [] ++ take n piece) b c o))
-others_appended name name' piece a b c (Err x) e k o f = others_on name a b c k (others_same name b c f)
+pub others_appended : (name piece : List ℕ) (a b c : Option FileMap) (r : Result ℕ FileErr) → OthersKept name a b
+    → IfOk r (λ n. c ≡ option_map (λ files. appended files name (take n piece)) b) → OnErr r (c ≡ b) → OthersKept name a c
+others_appended name piece a b c (Ok n) k o f = others_on name a b c k (others_kept name (λ files. unwrap_or (map.get files name) [] ++ take n piece) b c o)
+others_appended name piece a b c (Err x) k o f = others_on name a b c k (others_same name b c f)
 
 -- a fault of a file that is there
 pub rose_at : (before now : ℕ) (e : FileErr) → (e ≡ Absent → ⊥) → CountsFault before now e → Rose before now
@@ -56,18 +55,16 @@ pub made_there : (name : List ℕ) (held held' : Option FileMap) → held' ≡ o
 made_there name None held' e = ap (is_there name) e
 made_there name (Some m) held' e = ap (is_there name) e ∙ set_there m name []
 
--- what a file holds behind an append
-pub held_appended : (name piece before : List ℕ) (a c : Option FileMap) → held_under a name ≡ Some before → c ≡ option_map (λ files. appended files name piece) a → held_under c name ≡ Some (before ++ piece)
-held_appended name piece before None c h e = absurd cc
-held_appended name piece before (Some m) c h e =
-    ap (λ o. held_under o name) e ∙ get-insert m name (unwrap_or (map.get m name) [] ++ piece) name
+-- what a file holds behind an append, where it is there
+held_appended : (m : FileMap) (name piece : List ℕ) (now : Option (List ℕ)) → map.get m name ≡ now → IsSome now → map.get (map.insert m name (unwrap_or (map.get m name) [] ++ piece)) name ≡ known_and now piece
+held_appended m name piece None h there = absurd cc
+held_appended m name piece (Some before) h there =
+    get-insert m name (unwrap_or (map.get m name) [] ++ piece) name
     ∙ ap (λ b. cond b (Some (unwrap_or (map.get m name) [] ++ piece)) (map.get m name)) (same_bytes name) ∙ ap (λ o. Some (unwrap_or o [] ++ piece)) h
 
--- more of a text behind its front
-pub added_more : (before bytes piece : List ℕ) (done count : ℕ) (a b c : Option (List ℕ)) → ((before : List ℕ) → a ≡ Some before → b ≡ Some (before ++ take done bytes)) → ((front : List ℕ) → b ≡ Some front → c ≡ Some (front ++ take count piece)) → a ≡ Some before
-    → piece ≡ drop done bytes → c ≡ Some (before ++ take (done + count) bytes)
-added_more before bytes piece done count a b c first more h is =
-    more (before ++ take done bytes) (first before h) ∙ ap Some (append_assoc before (take done bytes) (take count piece) ∙ ap (λ x. before ++ x) (ap (λ p. take done bytes ++ take count p) is ∙ sym (take-add done count bytes)))
+pub taken_appended : (name piece : List ℕ) (a c : Option FileMap) → IfSome a (λ files. IsSome (map.get files name)) → c ≡ option_map (λ files. appended files name piece) a → held_under c name ≡ known_and (held_under a name) piece
+taken_appended name piece None c there e = ap (λ h. held_under h name) e
+taken_appended name piece (Some m) c there e = ap (λ h. held_under h name) e ∙ held_appended m name piece (map.get m name) refl there
 
 -- a file that was made holds nothing
 pub made_empty : (name : List ℕ) (known : FileMap) (held held' : Option FileMap) → held' ≡ option_map (λ files. map.insert files name []) held → held ≡ Some known → held_under held' name ≡ Some []

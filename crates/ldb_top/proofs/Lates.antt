@@ -1,5 +1,6 @@
 -- Commands that are too many, line by line.
 use Rattle.std.proofs.Common.{◌≡◌, ℕ, Bool, true, false, ◌&&◌, ◌||◌, not, List, [], ◌∷◌, Option, None, Some, Ok, Err, refl, sym, ap, ◌∙◌, subst, nat_le, codes, length, if◌then◌else◌}
+use Rattle.std.proofs.lemmas.Bool.{false≢true}
 use Rattle.std.specs.declared.result.Result.{Result}
 use Rattle.std.specs.Prelude.{IfOk}
 use Rattle.std.specs.List.{list_any}
@@ -9,9 +10,6 @@ use Rattle.c_session.specs.declared.command.Command.{Command}
 use Rattle.c_session.specs.declared.command.Command.TheVariants.{Break, Clear, Continue, Step, Turns, Frames, Frame, Print, Eval, Assign, Quit, Regs, Code, Ps}
 use Rattle.c_session.specs.declared.command.Spot.{Spot}
 use Rattle.cc_call.specs.declared.ended.Fault.{Fault}
-use Rattle.session.specs.declared.answers.Answer.{Answer}
-use Rattle.session.specs.declared.answers.End.{End}
-use Rattle.session.specs.declared.answers.End.TheVariants as end
 use Rattle.cmd_lang.specs.Numbers.{number_of, limit_of}
 use Rattle.cmd_lang.specs.Places.{spot_of}
 use Rattle.cmd_lang.specs.Words.{is_nothing, without_blanks, first_word, behind_word, lone_word}
@@ -82,34 +80,37 @@ same_quit raw line =
 pub quits : (raw : Bool) (line : List ℕ) → read_of raw line ≡ Some Quit → is_quit line ≡ true
 quits raw line e = sym (same_quit raw line) ∙ ap asks_quit e
 
-quit_alone : (o : Option Command) → (o ≡ Some Quit → ⊥) → asks_quit o ≡ false
-quit_alone None n = refl
-quit_alone (Some Quit) n = absurd (n refl)
-quit_alone (Some (Break x)) n = refl
-quit_alone (Some (Clear x)) n = refl
-quit_alone (Some Continue) n = refl
-quit_alone (Some Step) n = refl
-quit_alone (Some (Turns x)) n = refl
-quit_alone (Some Frames) n = refl
-quit_alone (Some (Frame x)) n = refl
-quit_alone (Some (Print x)) n = refl
-quit_alone (Some (Eval x)) n = refl
-quit_alone (Some (Assign x)) n = refl
-quit_alone (Some Regs) n = refl
-quit_alone (Some (Code x)) n = refl
-quit_alone (Some (Ps x)) n = refl
+-- a line that is `quit` is read so
+quit_alone_is : (o : Option Command) → asks_quit o ≡ true → o ≡ Some Quit
+quit_alone_is None e = absurd (false≢true e)
+quit_alone_is (Some Quit) e = refl
+quit_alone_is (Some (Break x)) e = absurd (false≢true e)
+quit_alone_is (Some (Clear x)) e = absurd (false≢true e)
+quit_alone_is (Some Continue) e = absurd (false≢true e)
+quit_alone_is (Some Step) e = absurd (false≢true e)
+quit_alone_is (Some (Turns x)) e = absurd (false≢true e)
+quit_alone_is (Some Frames) e = absurd (false≢true e)
+quit_alone_is (Some (Frame x)) e = absurd (false≢true e)
+quit_alone_is (Some (Print x)) e = absurd (false≢true e)
+quit_alone_is (Some (Eval x)) e = absurd (false≢true e)
+quit_alone_is (Some (Assign x)) e = absurd (false≢true e)
+quit_alone_is (Some Regs) e = absurd (false≢true e)
+quit_alone_is (Some (Code x)) e = absurd (false≢true e)
+quit_alone_is (Some (Ps x)) e = absurd (false≢true e)
 
-pub quits_not : (raw : Bool) (line : List ℕ) → (read_of raw line ≡ Some Quit → ⊥) → is_quit line ≡ false
-quits_not raw line n = sym (same_quit raw line) ∙ quit_alone (read_of raw line) n
+pub quit_read : (raw : Bool) (line : List ℕ) → is_quit line ≡ true → read_of raw line ≡ Some Quit
+quit_read raw line e = quit_alone_is (read_of raw line) (same_quit raw line ∙ e)
 
 -- ---- one line, answered
 
-no_end : (answer : Result Answer End) (a : Answer) → answer ≡ Ok a → answer ≡ Err end.Quit → ⊥
-no_end answer a e f = absurd cc
+not_quit : (b : Bool) → (b ≡ true → ⊥) → b ≡ false
+not_quit true n = absurd (n refl)
+not_quit false n = refl
 
-pub follows_answer : (raw : Bool) (line : List ℕ) (answer : Result Answer End) (a : Answer) (r : Result Next Fault) → answer ≡ Ok a → (read_of raw line ≡ Some Quit → answer ≡ Err end.Quit) → IfOk r (λ x. x ≡ next.Line) → IfOk r (Follows line)
-follows_answer raw line answer a (Ok x) e q n = subst (Follows line) (sym n) (quits_not raw line (λ asked. no_end answer a e (q asked)))
-follows_answer raw line answer a (Err f) e q n = tt
+-- behind a reply
+pub follows_reply : (line : List ℕ) (r : Result Next Fault) → (is_quit line ≡ true → ⊥) → IfOk r (λ x. x ≡ next.Line) → IfOk r (Follows line)
+follows_reply line (Ok x) n e = subst (Follows line) (sym e) (not_quit (is_quit line) n)
+follows_reply line (Err f) n e = tt
 
 -- ---- one line after another
 

@@ -61,7 +61,7 @@ abbrev pub HasConversedLateOver : Names → (old new : Outside) → (raw : Bool)
 HasConversedLateOver n old new raw st = HasConversedLate raw st (lines_of old.left) old.taken new.taken (held_under new.held n.output)
 
 -- A session was begun, and its commands were read; its output file is there. Where commands and transcript tell, it was the conversation of
--- the machine session up to the first open line, but for lines that are passed.
+-- the machine session, but for lines that are passed.
 pub record EndsRead (form : Form) (n : Names) (old new : Outside) : Type 0 where
   pub begun : (known : FileMap) → old.held ≡ Some known → Begins form n known
   pub read : AreRead old new

@@ -1,5 +1,5 @@
 -- What a session tells and puts, by the machine session over the same lines.
-use Rattle.std.specs.Prelude.{◌≡◌, ◌⊎◌, ℕ, Bool, true, false, if◌then◌else◌, List, [], ◌∷◌, ◌++◌, codes, Option, None, Some}
+use Rattle.std.specs.Prelude.{◌≡◌, ◌⊎◌, ℕ, Bool, true, false, if◌then◌else◌, List, [], ◌∷◌, ◌++◌, codes, Option, None, Some, Ok}
 use Rattle.machine_state.specs.State.{Behaviour}
 use Rattle.targets.specs.Targets.{machine_behaviour}
 use Rattle.c_session.specs.declared.command.Command.{Command}
@@ -13,12 +13,12 @@ use Rattle.claims.specs.Side.{SessionState, State}
 use Rattle.claims.specs.Lines.{Reply}
 use Rattle.claims.specs.Carries.{Converses as MachineConverses}
 use Rattle.claims.specs.Outcome.{Answers, refused_by_state}
-use Rattle.session.specs.Meant.{IsSaidIfAny}
-use Rattle.session.specs.Wanting.{WithSides, LeavesIfAny}
+use Rattle.session.specs.declared.answers.Answer.{Answer}
+use Rattle.session.specs.declared.answers.Answer.TheVariants as answer
+use Rattle.session.specs.Wanting.{WithSides, LeavesIfAny, LeavesTarget}
 use Rattle.ldb_top.specs.Ahead.{Lines}
 use Rattle.ldb_top.specs.Late.{asks_quit}
 use Rattle.ldb_top.specs.Lines.{late_line}
-use Rattle.ldb_top.specs.Said.{IsFront}
 
 -- ---- lines
 
@@ -30,6 +30,11 @@ commands_in raw (line ∷ lines) = if is_empty line then commands_in raw lines e
 -- the reply to a command for which there was no memory
 abbrev pub wanting_line : List ℕ
 wanting_line = codes "no memory\n"
+
+-- the bytes of an answer
+abbrev pub reply_of : Answer → List ℕ
+reply_of (answer.Lines text) = text
+reply_of answer.NoMemory = wanting_line
 
 -- why the session's state refuses a line, if it does
 abbrev pub refused_in : State → Option Command → Option Refusal
@@ -45,17 +50,16 @@ asks_sides (Some c) = true
 
 -- ---- lines that aren't answered as in the machine session
 
--- A command that asks the sides, in a state that doesn't refuse it, and for which there was no memory. Behind it the session is as before, over the
--- tables that it has then; `ps` may have stored numbers to the target.
+-- A command that asks the sides, in a state that doesn't refuse it, and for which there was no memory; or `eval`, `assign` or `code`, of whose reply
+-- nothing is told here. Behind it the session is as before, over the tables that it has then; `assign`, and `ps` without memory, may have stored
+-- numbers to the target.
 pub record IsPassed (st : SessionState) (c : Option Command) (reply : List ℕ) (next : SessionState) : Type 0 where
+  pub answer : Answer
+  pub passes : LeavesTarget c (Ok answer)
   pub asks : asks_sides c ≡ true
   pub unrefused : refused_in st.state c ≡ None
-  pub reply_is : reply ≡ wanting_line
-  pub leaves : WithSides (LeavesIfAny c) st next
-
--- A command whose meaning the session's contract doesn't tell, in a state that doesn't refuse it: from there on nothing is said of the transcript.
-abbrev pub IsOpen : SessionState → Option Command → Type 0
-IsOpen st c = (¬ IsSaidIfAny c) × (refused_in st.state c ≡ None)
+  pub reply_is : reply ≡ reply_of answer
+  pub leaves : WithSides (LeavesIfAny c (Ok answer)) st next
 
 -- ---- a conversation
 
@@ -64,27 +68,22 @@ module _ (Passed : SessionState → Option Command → (reply : List ℕ) → Se
   abbrev pub IsNext : Behaviour → SessionState → Option Command → (reply : List ℕ) → SessionState → Type 0
   IsNext b st c reply next = ((lines : Reply) × Answers b st c lines next × (reply ≡ joined lines)) ⊎ Passed st c reply next
 
-  module _ (Open : SessionState → Option Command → Type 0) where
-    -- The lines from a session on: the bytes of the transcript, and what the first side's machine put in all. `quit` and the end of
-    -- the lines end it. An open line leaves what follows it open, but that what was put before it stays.
-    abbrev pub ConversesBut : Behaviour → SessionState → List (Option Command) → (transcript output : List ℕ) → Type 0
-    ConversesBut b st [] transcript output = (transcript ≡ []) × (output ≡ st.written)
-    ConversesBut b st (c ∷ cs) transcript output =
-        ((asks_quit c ≡ true) × (transcript ≡ []) × (output ≡ st.written))
-        ⊎ ((Open st c × IsFront st.written output)
-        ⊎ ((reply : List ℕ) × (rest : List ℕ) × (next : SessionState) × IsNext b st c reply next × (transcript ≡ reply ++ rest) × ConversesBut b next cs rest output))
+  -- The lines from a session on: the bytes of the transcript, and what the first side's machine put in all. `quit` and the end of
+  -- the lines end it.
+  abbrev pub ConversesBut : Behaviour → SessionState → List (Option Command) → (transcript output : List ℕ) → Type 0
+  ConversesBut b st [] transcript output = (transcript ≡ []) × (output ≡ st.written)
+  ConversesBut b st (c ∷ cs) transcript output =
+      ((asks_quit c ≡ true) × (transcript ≡ []) × (output ≡ st.written))
+      ⊎ ((reply : List ℕ) × (rest : List ℕ) × (next : SessionState) × IsNext b st c reply next × (transcript ≡ reply ++ rest) × ConversesBut b next cs rest output)
 
--- What the machine session answers, up to the first line that is open, with the lines between that are passed. Without either this is the
--- conversation of the machine session, whose lines are joined to bytes (`conversations_are_joined`).
+-- What the machine session answers, with the lines between that are passed. Without these it is the conversation of the machine session, whose
+-- lines are joined to bytes (`conversations_are_joined`).
 abbrev pub Converses : SessionState → List (Option Command) → (transcript output : List ℕ) → Type 0
-Converses st cs transcript output = ConversesBut IsPassed IsOpen machine_behaviour st cs transcript output
+Converses st cs transcript output = ConversesBut IsPassed machine_behaviour st cs transcript output
 
--- no line is passed, and none open
+-- no line is passed
 abbrev pub NonePassed : SessionState → Option Command → (reply : List ℕ) → SessionState → Type 0
 NonePassed st c reply next = ⊥
-
-abbrev pub NoneOpen : SessionState → Option Command → Type 0
-NoneOpen st c = ⊥
 
 -- ---- a session
 
@@ -112,8 +111,8 @@ HasConversedLate raw st lines taken taken' out = (between : Option (List ℕ)) �
 abbrev pub IsJoined : Behaviour → SessionState → List (Option Command) → (transcript output : List ℕ) → Type 0
 IsJoined b st cs transcript output = (reply : Reply) × (transcript ≡ joined reply) × MachineConverses b st cs reply output
 
--- without passed and open lines both are the same
+-- without passed lines both are the same
 abbrev pub ConversationsAreJoined : Type 0
 ConversationsAreJoined =
     (b : Behaviour) (st : SessionState) (cs : List (Option Command)) (transcript output : List ℕ)
-    → (ConversesBut NonePassed NoneOpen b st cs transcript output → IsJoined b st cs transcript output) × (IsJoined b st cs transcript output → ConversesBut NonePassed NoneOpen b st cs transcript output)
+    → (ConversesBut NonePassed b st cs transcript output → IsJoined b st cs transcript output) × (IsJoined b st cs transcript output → ConversesBut NonePassed b st cs transcript output)
