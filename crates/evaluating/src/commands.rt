@@ -56,7 +56,7 @@ fn line(alloc: Global, word: &[u8], text: &[u8]) -> Result<Text, AllocError>
 /// The reply of a word and a text.
 fn reply(alloc: Global, word: &[u8], text: &[u8]) -> Result<Text, AskFault>
     ensures err { IfErr result (λ fault. fault ≡ AskFault.NoMemory) }
-    ensures ok { IfOk result (λ t. t ≡ word.now ++ (text.now ++ (10 ∷ []))) }
+    ensures word { IfOk result (λ t. BeginsWith word.now t) }
 {
     match line(alloc, word, text) {
         Ok(line) => Ok(line),
