@@ -63,8 +63,8 @@ abbrev pub rates_of_made : Rates
 rates_of_made = rates (λ c. c.made) 50
 
 -- What tokens pay for: a `*` and the `[` of a bound each pay for one item, and so do the tag of a struct and the word, `=`, `;` or brace at a stopping
--- point. A string is paid for by itself and the token behind it, which may stand at a point; a declared name by itself and the token behind it; and a function
--- by its two parentheses.
+-- point. A string is paid for by itself and the token behind it, which may stand at a point; a declared name by itself and the token
+-- behind it, or, of a function or a parameter, a word of its type; and a function by its two parentheses.
 pub record AreCovered (r : Rates) : Type 0 where
   pub string : r.string + r.point ≤ 2 * r.token
   pub struct : r.struct ≤ r.token

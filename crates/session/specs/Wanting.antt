@@ -1,5 +1,5 @@
--- What a command leaves that found no memory: a session that stands for the machine session as before, over the tables that it has then, and
--- behind `ps` with what its text had stored. (Units of the tables may have been run; that nothing else became of them isn't said here.)
+-- What a command leaves that found no memory, or that evaluated an expression: a session that stands for the machine session as before, over the
+-- tables that it has then, behind `ps` without memory and behind `assign` with numbers stored. (Units of the tables may have been run; that nothing else became of them isn't said here.)
 use Rattle.std.specs.Prelude.{◌≡◌, ℕ, [], Option, Some, None, Result, Ok, Err}
 use Rattle.machine_state.specs.State.{Behaviour, order_of}
 use Rattle.nub_wire.specs.Nub.{Host}
@@ -62,7 +62,7 @@ Leaves c a a' = WithTable a a'
 
 -- ---- an answer
 
--- it finds no memory, or an expression was evaluated
+-- it finds no memory, or is whatever line `eval`, `assign` or `code` say, a refusal too
 abbrev pub LeavesTarget : Option Command → Result Answer End → Type 0
 LeavesTarget c (Ok answer.NoMemory) = Unit {0}
 LeavesTarget (Some (command.Eval text)) (Ok (answer.Lines l)) = Unit {0}
@@ -70,7 +70,7 @@ LeavesTarget (Some (command.Assign text)) (Ok (answer.Lines l)) = Unit {0}
 LeavesTarget (Some (command.Code text)) (Ok (answer.Lines l)) = Unit {0}
 LeavesTarget c r = ⊥
 
--- what it leaves changed of a side: an assignment that found memory may have stored numbers, and a line without a command leaves all as it is
+-- what it leaves changed of a side: an assignment that was answered by a line, also by a refusal, may have stored numbers, and a line without a command leaves all as it is
 abbrev pub LeavesIfAny : Option Command → Result Answer End → (a a' : SideState) → Type 0
 LeavesIfAny None r a a' = a' ≡ a
 LeavesIfAny (Some (command.Assign text)) (Ok (answer.Lines l)) a a' = WithNumbers a a'

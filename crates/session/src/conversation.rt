@@ -240,8 +240,9 @@ impl<L: Link + Drop> Session<L> {
     /// where it is `break`, `clear` or `frame` and is done, or its link failed. `continue` and `step` tell the event of all
     /// sides, or aren't begun, or end the session. Without memory the session's state, its limit, its breakpoints and its chosen
     /// frames are as before, and so are its targets and the count of the link's faults, and nothing was put into the output; units of
-    /// tables that were run stay so, and what a text of PostScript stored in the target stays. Lines to `eval` and `code` leave as much as
-    /// it was, and lines to `assign` all but numbers that were stored in the targets.
+    /// tables that were run stay so, and what a text of PostScript stored in the target stays. Unless the link failed,
+    /// lines to `eval` and `code` leave as much as it was, and lines to `assign`, refusals too, all but numbers that were stored in the targets.
+    /// The reply `target` comes only as the session ends.
     pub fn command<O: Sink>(&mut self, line: &[u8], out: &mut O) -> Result<Answer, End>
         ensures quit { read_of self.old.raw line.now ≡ Some Quit → result ≡ Err End.Quit }
         ensures quits { result ≡ Err End.Quit → read_of self.old.raw line.now ≡ Some Quit }
