@@ -128,7 +128,7 @@ units_of p = (cost_of p).made + (cost_of p).bytes / 8 + 2 * (1 + length p.units)
 
 -- What an item costs for each token that it is written with, at most. An object and its symbol stand at a name, which another token follows;
 -- a `*` is a constructor; a function has six tokens and two points; any other point, a local, a member and a string have two, and so has the
--- mention of a struct; a string that is a statement has two, and a point. 40,000 tokens in 16 files make at most 16,339,916 bytes, of the
--- 16,777,216 that a text may have, and 1,804,154 steps.
+-- mention of a struct; a string that is a statement has two, and a point. 40,000 tokens in 16 files make at most 16,340,483 bytes, of the
+-- 16,777,216 that a text may have, and 1,804,379 steps. Of the units 50 a token are proved.
 abbrev pub per_token : Cost
 per_token = record { bytes = 408; made = 38; steps = 45 }

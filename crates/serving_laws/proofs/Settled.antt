@@ -1,5 +1,5 @@
 -- A table whose units were all run has none to be run first where an object is looked up.
-use Rattle.std.proofs.Common.{◌≡◌, subst, ℕ}
+use Rattle.std.proofs.Common.{subst, ℕ}
 use Rattle.ps_store.specs.StoreState.{StoreState}
 use Rattle.table_model.specs.declared.found.Found.{Found}
 use Rattle.table_model.specs.Reading.{Walked}

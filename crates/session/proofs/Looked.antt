@@ -391,14 +391,6 @@ unset_counts f e is = subst (λ (z : AskFault). CountsFault f f z) (sym is) refl
 pub unset_well : (f : ℕ) (e : AskFault) → e ≡ NoMemory → FailsWell f f (Unit {0}) e
 unset_well f e is = subst (λ (z : AskFault). FailsWell f f (Unit {0}) z) (sym is) tt
 
--- what it says, once it was stored
-pub stored_whole : (e : AskFault) → ((x : PsError) → e ≢ Raised x) → IsStoreFault e → IsUndone {A = List ℕ} (Err e) → ⊥
-stored_whole (Raised x) n last u = n x refl
-stored_whole (Broken x) n last u = u
-stored_whole (Refused cause) n last u = last
-stored_whole Spent n last u = last
-stored_whole NoMemory n last u = last
-
 -- the second one, once the first was asked, with both as they are then
 pub with_second_there : (b : Behaviour) (c : Conduct) (o o1 : Option World) (first first' second : SideRecord) (hs : Hosts) → first'.which ≡ first.which → AreThere b c o first (Some second) hs → IsThere b c o1 first' hs.first hs.second → (P : Type 0)
     → ((h : Host) → IsThere b c o1 first' hs.first (Some h) → IsThere b c o1 second h (Some hs.first) → first'.which ≡ First → second.which ≡ Second → P) → P
