@@ -4,7 +4,7 @@ use Rattle.std.proofs.lemmas.Slice.Eq.{bytes_eq-Decides}
 use Rattle.c_trees.specs.declared.unit.External.{External}
 use Rattle.c_typing.specs.Declarations.{is_named}
 use Rattle.c_mentions.specs.Tags.{in_all, in_external, each_once}
-use Rattle.c_file.specs.Programs.{tags_of}
+use Rattle.c_linkage.specs.FileTags.{tags_of}
 use Rattle.c_accepted.proofs.Shapes.{AreTags}
 
 or_right : (a b : Bool) → b ≡ true → (a || b) ≡ true

@@ -7,8 +7,9 @@ use Rattle.c_typing.specs.Written.{IsWritten}
 use Rattle.c_typing.specs.Expressions.{Function}
 use Rattle.c_typing.specs.Declarations.{scope_at}
 use Rattle.c_scope.specs.Environment.{Row}
-use Rattle.c_file.specs.Names.{is_built_in}
-use Rattle.c_file.specs.Files.{State, Called}
+use Rattle.c_linkage.specs.Names.{is_built_in}
+use Rattle.c_file.specs.Files.{State}
+use Rattle.c_linkage.specs.Wanted.{Called}
 
 -- each struct is within its limits
 abbrev pub StructsAreWritten : Program → Type 0

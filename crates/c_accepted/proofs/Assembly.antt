@@ -12,11 +12,14 @@ use Rattle.c_typing.specs.Declarations.{IsStruct, Differ}
 use Rattle.c_tree.specs.Layout.{leaves_of}
 use Rattle.c_typing.specs.Starts.{AreStarts, IsObject}
 use Rattle.c_typing.specs.Programs.{AllFrom, IsFunction, KeepsRules, has_main, names_of_unit}
-use Rattle.c_file.specs.Names.{twice}
+use Rattle.c_linkage.specs.Names.{twice}
 use Rattle.c_file.specs.Files.{State, Bodied}
 use Rattle.c_file.specs.Programs as programs
-use Rattle.c_file.specs.Programs.{Told, Well, Lacks, Breaks, Fault, Rule, Twice, Undefined, NoMain, uncalled, or_name, missing, behind_rules, first_fault, late_found, AllFiles, tags_of, at_first, next_file}
-use Rattle.c_file.specs.Made.{Each, bodies_of, objects_from}
+use Rattle.c_file.specs.Programs.{Told, Well, Lacks, Breaks, Fault, Rule, Twice, Undefined, NoMain, uncalled, missing, behind_rules, first_fault, late_found, AllFiles, at_first, next_file}
+use Rattle.c_linkage.specs.Bounds.{or_name}
+use Rattle.c_linkage.specs.FileTags.{tags_of}
+use Rattle.c_file.specs.Made.{Each}
+use Rattle.c_linkage.specs.Defined.{bodies_of, objects_from}
 use Rattle.c_accepted.proofs.Completed.{AreSound}
 use Rattle.c_accepted.proofs.Declarations.{AreDeclared, IsWholeIn}
 use Rattle.c_accepted.specs.Sources.{IsText, AreTexts}

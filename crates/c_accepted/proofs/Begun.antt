@@ -10,8 +10,9 @@ use Rattle.c_typing.specs.Starts.{AreStarts}
 use Rattle.c_defs.specs.Depths.{deepest}
 use Rattle.c_defs.specs.Leaves.{leaf_count}
 use Rattle.c_initial.specs.Begins.{Bits, zeros}
-use Rattle.c_file.specs.Names.{Defining}
-use Rattle.c_file.specs.Files.{State, Started}
+use Rattle.c_linkage.specs.Names.{Defining}
+use Rattle.c_file.specs.Files.{State}
+use Rattle.c_linkage.specs.Wanted.{Started}
 use Rattle.c_file.specs.Made.{Each, IsObjectOf, object_type, started, begins_in}
 use Rattle.c_accepted.proofs.Starting.{IsWordStart}
 use Rattle.c_accepted.proofs.KindsOfLeaves.{kinds_of, Hold, IsPlaceStart, starts_of, zeros_hold}

@@ -18,7 +18,7 @@ use Rattle.c_scope.specs.Findings.{Finding, fine, nothing, ◌beside◌, holds}
 use Rattle.c_scope.specs.Declarators.{Shape, Object, Function, shape, parameter_type, name_in}
 use Rattle.c_body.specs.Bodies.{found, in_function, is_block, after}
 use Rattle.c_body.specs.Stops.{inside_block}
-use Rattle.c_file.specs.Names.{name_found, as_built_in, as_main, one_linkage, one_type, is_built_in}
+use Rattle.c_linkage.specs.Names.{name_found, as_built_in, as_main, one_linkage, one_type, is_built_in}
 use Rattle.c_file.specs.Files.{State, with_name, with_head, with_spec, after_all, function_row, body_environment, function_found, behind_body, after_function, are_named, Externals, AllExternals, Onward}
 use Rattle.c_file.specs.Programs.{Told, Well, Breaks, in_file, ◌before◌, built_ins, built_in_rows, next_file, at_first, AllFiles, takes_many}
 use Rattle.c_accepted.specs.Grown.{Grows}

@@ -20,7 +20,7 @@ use Rattle.c_judge.proofs.Sizes.{size_of_plain}
 use Rattle.c_scope.specs.Environment.{Environment}
 use Rattle.c_scope.specs.Declarators.{Shape, Object, Function, denoted}
 use Rattle.c_initial.specs.Initials.{bound_set}
-use Rattle.c_file.specs.Files.{object_type, in_limits, may_stand, is_extern, standing}
+use Rattle.c_linkage.specs.Types.{object_type, in_limits, may_stand, is_extern, standing}
 use Rattle.c_accepted.specs.Grown.{ctype_of, IsMade, IsHeld}
 use Rattle.c_accepted.proofs.Completed.{IsSound, AreSound}
 use Rattle.c_accepted.proofs.Growth.{both_parts, not_empty}

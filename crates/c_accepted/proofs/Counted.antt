@@ -15,7 +15,7 @@ use Rattle.c_typing.specs.Starts.{static_room}
 use Rattle.c_typing.specs.Values.{size_of}
 use Rattle.c_judge.proofs.Sizes.{size_of_plain}
 use Rattle.c_body.specs.Stops.{Stop}
-use Rattle.c_file.specs.Names.{Defining}
+use Rattle.c_linkage.specs.Names.{Defining}
 use Rattle.c_file.specs.Files.{State, Bodied}
 use Rattle.c_file.specs.Made as made
 use Rattle.c_file.specs.Made.{Each, HasRows, IsObjectOf, IsFunctionOf, AreUnits, functions_of, all_stops, points_from, all_points}

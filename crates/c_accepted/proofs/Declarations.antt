@@ -4,12 +4,13 @@ use Rattle.std.specs.List.{AllByRecursion}
 use Rattle.c_tree.specs.declared.types.StructDef.{StructDef}
 use Rattle.c_typing.specs.Plain.{Plain, is_complete}
 use Rattle.c_typing.specs.Expressions.{Denoted, Object, Function}
-use Rattle.c_file.specs.declared.definitions.Manner.{Manner}
-use Rattle.c_file.specs.declared.definitions.Manner.TheVariants.{Body, Initialized, Tentative}
-use Rattle.c_file.specs.Names.{FileName, Defining, as_built_in, as_main}
-use Rattle.c_file.specs.FileNames.{AreConsistent}
+use Rattle.c_linkage.specs.declared.definitions.Manner.{Manner}
+use Rattle.c_linkage.specs.declared.definitions.Manner.TheVariants.{Body, Initialized, Tentative}
+use Rattle.c_linkage.specs.Names.{FileName, Defining, as_built_in, as_main}
+use Rattle.c_linkage.specs.FileNames.{AreConsistent}
 use Rattle.c_file.specs.Files.{State, Bodied}
-use Rattle.c_file.specs.Made.{Each, is_body, bodies_of}
+use Rattle.c_file.specs.Made.{Each}
+use Rattle.c_linkage.specs.Defined.{is_body, bodies_of}
 
 -- a body defines a function, and another definition an object
 abbrev pub Fits : Manner → Denoted → Type 0

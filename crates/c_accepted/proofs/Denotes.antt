@@ -20,10 +20,11 @@ use Rattle.c_scope.specs.Findings.{nothing, ◌beside◌, holds}
 use Rattle.c_body.specs.Bodies.{after, is_block}
 use Rattle.c_body.specs.Stops.{inside_block}
 use Rattle.c_mentions.specs.Tags.{in_all, in_external, in_file_spec, in_declared, in_declarator, in_statement}
-use Rattle.c_file.specs.Names.{FileName, agree_as, same_all, composite, is_here, is_built_in, as_built_in, name_found, told_before}
-use Rattle.c_file.specs.Files.{State, Bodied, standing, object_type, in_limits, may_stand, is_extern, with_name, with_head, with_strings, with_definition, row_of, function_row, body_environment, bodied, after_all, after_name, after_what, after_function, what, declared_found, found_as, all_found, initial_or_none, function_found, are_named, with_spec, Externals}
+use Rattle.c_linkage.specs.Names.{FileName, agree_as, same_all, composite, is_here, is_built_in, as_built_in, name_found, told_before}
+use Rattle.c_file.specs.Files.{State, Bodied, with_name, with_head, with_strings, with_definition, row_of, function_row, body_environment, bodied, after_all, after_name, after_what, after_function, what, declared_found, found_as, all_found, initial_or_none, function_found, are_named, with_spec, Externals}
+use Rattle.c_linkage.specs.Types.{standing, object_type, in_limits, may_stand, is_extern}
 use Rattle.c_file.specs.Programs.{at_first, next_file}
-use Rattle.c_file.proofs.Telling.{same_plain}
+use Rattle.c_linkage.proofs.Telling.{same_plain}
 use Rattle.c_accepted.proofs.Growth.{both_parts}
 use Rattle.c_accepted.proofs.Known.{never, one_known, then_known}
 use Rattle.c_accepted.proofs.Shapes.{AreTags, both_tags}

@@ -10,12 +10,13 @@ use Rattle.c_typing.specs.Plain.{Int}
 use Rattle.c_typing.specs.Expressions.{Denoted, Object, Function, Hidden}
 use Rattle.c_typing.specs.Declarations.{is_named, Differ}
 use Rattle.c_typing.specs.Programs.{is_main, has_main}
-use Rattle.c_file.specs.declared.definitions.Manner.{Manner}
-use Rattle.c_file.specs.declared.definitions.Manner.TheVariants.{Body, Initialized, Tentative}
-use Rattle.c_file.specs.Names.{FileName, Defining, agree_as, is_here, is_same, one_type, defines, is_defined, same_manner, is_second, is_defined_before, twice}
-use Rattle.c_file.specs.FileNames.{AreConsistent}
+use Rattle.c_linkage.specs.declared.definitions.Manner.{Manner}
+use Rattle.c_linkage.specs.declared.definitions.Manner.TheVariants.{Body, Initialized, Tentative}
+use Rattle.c_linkage.specs.Names.{FileName, Defining, agree_as, is_here, is_same, one_type, defines, is_defined, same_manner, is_second, is_defined_before, twice}
+use Rattle.c_linkage.specs.FileNames.{AreConsistent}
 use Rattle.c_file.specs.Files.{State, Bodied}
-use Rattle.c_file.specs.Made.{Each, IsFunctionOf, IsObjectOf, bodies_of, is_body, is_on, objects_from}
+use Rattle.c_file.specs.Made.{Each, IsFunctionOf, IsObjectOf}
+use Rattle.c_linkage.specs.Defined.{bodies_of, is_body, is_on, objects_from}
 use Rattle.c_accepted.proofs.Declarations.{Fits, IsDeclaredBy, KeepsNames, IsBodyFor}
 use Rattle.c_accepted.proofs.Growth.{both_parts}
 

@@ -6,9 +6,9 @@ use Rattle.std.proofs.lemmas.Bool.{eqb-true}
 use Rattle.std.proofs.lemmas.Slice.Eq.{bytes_eq-Decides}
 use Rattle.c_typing.specs.Plain.{Plain}
 use Rattle.c_typing.specs.Expressions.{Object}
-use Rattle.c_file.specs.Names.{FileName, Defining, is_here, is_external, is_same, one_type, defines, is_defined}
-use Rattle.c_file.specs.FileNames.{AreConsistent}
-use Rattle.c_file.specs.Made.{is_body, is_on, objects_from, number_from}
+use Rattle.c_linkage.specs.Names.{FileName, Defining, is_here, is_external, is_same, one_type, defines, is_defined}
+use Rattle.c_linkage.specs.FileNames.{AreConsistent}
+use Rattle.c_linkage.specs.Defined.{is_body, is_on, objects_from, number_from}
 use Rattle.c_accepted.proofs.Declarations.{IsDeclaredBy}
 use Rattle.c_accepted.proofs.Growth.{both_parts}
 use Rattle.c_accepted.proofs.Differing.{all_at, is_function, body_is, kinds_agree}

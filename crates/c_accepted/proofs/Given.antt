@@ -14,11 +14,13 @@ use Rattle.c_defs.specs.Depths.{deepest}
 use Rattle.c_scope.specs.Environment.{Environment}
 use Rattle.c_initial.specs.Filled as filled
 use Rattle.c_initial.specs.Filled.{AreComplete}
-use Rattle.c_file.specs.Names.{FileName, Defining, is_here, one_linkage}
-use Rattle.c_file.specs.FileNames.{AreConsistent}
-use Rattle.c_file.specs.Files.{State, Started}
-use Rattle.c_file.specs.Made.{Each, IsObjectOf, started, object_type, objects_from}
-use Rattle.c_file.proofs.Telling.{same_linkage}
+use Rattle.c_linkage.specs.Names.{FileName, Defining, is_here, one_linkage}
+use Rattle.c_linkage.specs.FileNames.{AreConsistent}
+use Rattle.c_file.specs.Files.{State}
+use Rattle.c_linkage.specs.Wanted.{Started}
+use Rattle.c_file.specs.Made.{Each, IsObjectOf, started, object_type}
+use Rattle.c_linkage.specs.Defined.{objects_from}
+use Rattle.c_linkage.proofs.Telling.{same_linkage}
 use Rattle.c_accepted.specs.Grown.{IsHeld}
 use Rattle.c_accepted.proofs.Completed.{AreSound}
 use Rattle.c_accepted.proofs.Declarations.{IsWhole, IsWholeIn}

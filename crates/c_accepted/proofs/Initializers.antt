@@ -20,8 +20,9 @@ use Rattle.c_scope.specs.Declarators.{constant}
 use Rattle.c_initial.specs.Initials.{Spot, spot, text_of, number, number_in, count_of, part_of}
 use Rattle.c_initial.specs.Begins.{Begin, Bits, Within, Text, zeros, zeros_of_members, rest, behind_items, bits_of, character, characters, spot_begin, address_begin, value_begins, strings_of, items_begin, begins_of}
 use Rattle.c_initial.specs.Filled as filled
-use Rattle.c_file.specs.Names.{Defining}
-use Rattle.c_file.specs.Files.{State, Started}
+use Rattle.c_linkage.specs.Names.{Defining}
+use Rattle.c_file.specs.Files.{State}
+use Rattle.c_linkage.specs.Wanted.{Started}
 use Rattle.c_file.specs.Made.{Each, IsObjectOf, object_type, started, begins_in}
 use Rattle.c_accepted.specs.Sources.{AreWords, IsInitializer, AreItems}
 use Rattle.c_accepted.proofs.Starting.{IsWordStart}

@@ -4,7 +4,7 @@ use Rattle.std.specs.Prelude.{Ok}
 use Rattle.c_trees.specs.declared.unit.External.{External}
 use Rattle.c_tree.specs.declared.rows.Program.{Program}
 use Rattle.c_typing.specs.Programs.{KeepsRules}
-use Rattle.c_file.specs.Programs.{tags_of}
+use Rattle.c_linkage.specs.FileTags.{tags_of}
 use Rattle.c_check.specs.Faulty.{Checks}
 use Rattle.c_accepted.specs.Sources.{AreTexts}
 use Rattle.c_accepted.proofs.AllTags.{tags_there}

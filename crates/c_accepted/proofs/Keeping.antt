@@ -21,7 +21,7 @@ use Rattle.c_scope.specs.Environment.{Environment, struct_of}
 use Rattle.c_scope.specs.Declarators.{Parameter, parameter_type}
 use Rattle.c_scope.specs.Declarators as shapes
 use Rattle.c_body.specs.Stops.{inside_block}
-use Rattle.c_file.specs.Names.{declared_as_main, agree_as}
+use Rattle.c_linkage.specs.Names.{declared_as_main, agree_as}
 use Rattle.c_file.specs.Files.{State, Bodied}
 use Rattle.c_file.specs.Made.{HasRows, AreUnits, functions_of, behind_block}
 use Rattle.c_accepted.specs.Sources.{IsApart, IsInOrder, AllIn, AllInPart, AllInInitial, AllInNames, AllInHead}

@@ -18,13 +18,15 @@ use Rattle.c_scope.specs.Declarators.{Shape, Object, Function, shape, name_in}
 use Rattle.c_scope.specs.Environment.{Environment}
 use Rattle.c_scope.specs.Findings.{nothing, ◌beside◌, holds}
 use Rattle.c_body.specs.Bodies.{is_block}
-use Rattle.c_file.specs.declared.definitions.Manner.{Manner}
-use Rattle.c_file.specs.declared.definitions.Manner.TheVariants.{Body}
-use Rattle.c_file.specs.Names.{FileName, Defining, as_built_in, as_main, one_linkage, one_type, name_found, is_built_in}
-use Rattle.c_file.specs.Files.{State, Bodied, standing, object_type, in_limits, may_stand, is_extern, manner_of, defining, with_name, with_head, with_strings, with_definition, row_of, function_row, after_all, after_name, after_what, after_function, bodied, what, declared_found, found_as, all_found, initial_or_none, function_found, are_named, with_spec, Externals}
+use Rattle.c_linkage.specs.declared.definitions.Manner.{Manner}
+use Rattle.c_linkage.specs.declared.definitions.Manner.TheVariants.{Body}
+use Rattle.c_linkage.specs.Names.{FileName, Defining, as_built_in, as_main, one_linkage, one_type, name_found, is_built_in}
+use Rattle.c_file.specs.Files.{State, Bodied, manner_of, defining, with_name, with_head, with_strings, with_definition, row_of, function_row, after_all, after_name, after_what, after_function, bodied, what, declared_found, found_as, all_found, initial_or_none, function_found, are_named, with_spec, Externals}
+use Rattle.c_linkage.specs.Types.{standing, object_type, in_limits, may_stand, is_extern}
 use Rattle.c_file.specs.Programs.{at_first, next_file}
-use Rattle.c_file.specs.Made.{Each, bodies_of, is_body}
-use Rattle.c_file.proofs.Telling.{unbroken}
+use Rattle.c_file.specs.Made.{Each}
+use Rattle.c_linkage.specs.Defined.{bodies_of, is_body}
+use Rattle.c_linkage.proofs.Telling.{unbroken}
 use Rattle.c_accepted.proofs.Declarations.{Fits, IsDeclaredBy, KeepsNames, IsBodyFor, AreDeclared}
 use Rattle.c_accepted.proofs.Known.{never, one_known, then_known}
 use Rattle.c_accepted.proofs.Walked.{Goes, two_parts, all_keep, function_keeps, behind_one, unbroken as is_known}

@@ -8,11 +8,12 @@ use Rattle.c_tree.specs.declared.rows.ObjectRow.{ObjectRow}
 use Rattle.c_tree.specs.Layout.{leaves_of}
 use Rattle.c_typing.specs.Plain.{Plain, Char, Int, Unsigned, Void, Pointer, Array, Struct, plain, is_complete}
 use Rattle.c_typing.specs.Starts.{AreStarts, IsObject}
-use Rattle.c_file.specs.Names.{FileName, Defining}
-use Rattle.c_file.specs.FileNames.{AreConsistent}
-use Rattle.c_file.specs.Telling.{is_unbounded}
+use Rattle.c_linkage.specs.Names.{FileName, Defining}
+use Rattle.c_linkage.specs.FileNames.{AreConsistent}
+use Rattle.c_linkage.specs.Telling.{is_unbounded}
 use Rattle.c_file.specs.Files.{State}
-use Rattle.c_file.specs.Made.{Each, IsObjectOf, object_type, objects_from}
+use Rattle.c_file.specs.Made.{Each, IsObjectOf, object_type}
+use Rattle.c_linkage.specs.Defined.{objects_from}
 use Rattle.c_accepted.proofs.Completed.{AreSound}
 use Rattle.c_accepted.proofs.Declarations.{IsWhole, IsWholeIn}
 use Rattle.c_accepted.proofs.Growth.{both_parts}

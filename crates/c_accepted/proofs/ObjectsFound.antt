@@ -8,11 +8,12 @@ use Rattle.c_typing.specs.Plain.{Plain, Int, Void, plain}
 use Rattle.c_typing.specs.Declarations.{built_in}
 use Rattle.c_typing.specs.Expressions as typing
 use Rattle.c_typing.specs.Expressions.{Denoted}
-use Rattle.c_file.specs.Names.{FileName, Defining, agree_as, is_same, is_built_in, as_built_in, defines}
-use Rattle.c_file.specs.Telling.{is_unbounded}
+use Rattle.c_linkage.specs.Names.{FileName, Defining, agree_as, is_same, is_built_in, as_built_in, defines}
+use Rattle.c_linkage.specs.Telling.{is_unbounded}
 use Rattle.c_file.specs.Files.{State}
 use Rattle.c_file.specs.Programs.{uncalled}
-use Rattle.c_file.specs.Made.{Each, IsObjectOf, object_number, objects_from, number_from, or_zero}
+use Rattle.c_file.specs.Made.{Each, IsObjectOf, object_number, or_zero}
+use Rattle.c_linkage.specs.Defined.{objects_from, number_from}
 use Rattle.c_accepted.proofs.Declarations.{AreDeclared, KeepsNames, IsWhole, IsWholeIn}
 use Rattle.c_accepted.proofs.Sought.{AreSought, IsSoughtIn}
 use Rattle.c_accepted.proofs.Composite.{IsOf, IsToldOf, object_type_is, all_told, is_same_turned}

@@ -25,8 +25,8 @@ use Rattle.c_scope.specs.Findings.{Finding, nothing}
 use Rattle.c_scope.specs.Spelling.{initial_at}
 use Rattle.c_initial.specs.Initials.{Spot, spot, is_spot, item_of, whole_of, text_of, number, rule_of, count_of, part_of, is_characters, address_found, value_found, initial_found, Late, late_of, late_in}
 use Rattle.c_initial.specs.Begins.{Begin, Bits, Within, Text, zeros, zeros_of_members, rest, behind_items, bits_of, character, characters, spot_begin, value_begins, items_begin, begins_of}
-use Rattle.c_file.specs.Names.{FileName}
-use Rattle.c_file.specs.Files.{Awaited}
+use Rattle.c_linkage.specs.Names.{FileName}
+use Rattle.c_linkage.specs.Wanted.{Awaited}
 use Rattle.c_accepted.specs.Grown.{IsMade, Grows}
 use Rattle.c_accepted.proofs.Growth.{both_parts, complete_grows, size_grows}
 use Rattle.c_accepted.proofs.Walked.{two_parts}

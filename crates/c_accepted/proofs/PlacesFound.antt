@@ -12,11 +12,14 @@ use Rattle.c_typing.specs.Expressions.{Denoted, Object, Function, Hidden}
 use Rattle.c_judge.proofs.Sizes.{size_of_plain}
 use Rattle.c_scope.specs.Findings.{holds}
 use Rattle.c_initial.specs.Begins.{Begin, Bits, Within, Text}
-use Rattle.c_file.specs.Names.{FileName, Defining, is_here, is_external}
-use Rattle.c_file.specs.Telling.{is_unbounded, is_open}
-use Rattle.c_file.specs.Files.{State, Started, Awaited}
-use Rattle.c_file.specs.Programs.{Well, in_file, bound_in, greatest_bound, late_found, uncalled}
-use Rattle.c_file.specs.Made.{Each, IsObjectOf, started, begins_in, object_number, objects_from, or_zero}
+use Rattle.c_linkage.specs.Names.{FileName, Defining, is_here, is_external}
+use Rattle.c_linkage.specs.Telling.{is_unbounded, is_open}
+use Rattle.c_file.specs.Files.{State}
+use Rattle.c_linkage.specs.Wanted.{Started, Awaited}
+use Rattle.c_file.specs.Programs.{Well, in_file, late_found, uncalled}
+use Rattle.c_linkage.specs.Bounds.{bound_in, greatest_bound}
+use Rattle.c_file.specs.Made.{Each, IsObjectOf, started, begins_in, object_number, or_zero}
+use Rattle.c_linkage.specs.Defined.{objects_from}
 use Rattle.c_accepted.proofs.Declarations.{AreDeclared, IsWholeIn}
 use Rattle.c_accepted.proofs.Sought.{AreSought}
 use Rattle.c_accepted.proofs.Growth.{both_parts}

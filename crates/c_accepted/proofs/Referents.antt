@@ -18,11 +18,14 @@ use Rattle.c_typing.specs.Expressions.{Denoted, Object, Function, Hidden}
 use Rattle.c_typing.specs.Programs.{AllFrom, IsReferent, agrees}
 use Rattle.c_scope.specs.Environment.{Row}
 use Rattle.c_scope.specs.Declarators.{parameter_type}
-use Rattle.c_file.specs.Names.{FileName, Defining, composite, is_here, is_same, is_built_in, one_type, told_before, defines, is_defined}
-use Rattle.c_file.specs.FileNames.{AreConsistent}
-use Rattle.c_file.specs.Files.{State, Bodied, Called}
-use Rattle.c_file.specs.Programs.{uncalled, is_static_in}
-use Rattle.c_file.specs.Made.{HasRows, IsFunctionOf, IsSymbolOf, is_body, bodies_of, number_from, object_number, function_number, or_zero, function_or_none, referent_of, type_of_name}
+use Rattle.c_linkage.specs.Names.{FileName, Defining, composite, is_here, is_same, is_built_in, one_type, told_before, defines, is_defined}
+use Rattle.c_linkage.specs.FileNames.{AreConsistent}
+use Rattle.c_file.specs.Files.{State, Bodied}
+use Rattle.c_linkage.specs.Wanted.{Called}
+use Rattle.c_file.specs.Programs.{uncalled}
+use Rattle.c_linkage.specs.Bounds.{is_static_in}
+use Rattle.c_file.specs.Made.{HasRows, IsFunctionOf, IsSymbolOf, object_number, function_number, or_zero, function_or_none, referent_of, type_of_name}
+use Rattle.c_linkage.specs.Defined.{is_body, bodies_of, number_from}
 use Rattle.c_accepted.proofs.Declarations.{IsDeclaredBy, IsBodyFor, AreDeclared, IsWholeIn}
 use Rattle.c_accepted.proofs.Sought.{AreSought}
 use Rattle.c_accepted.proofs.Asked.{CallsAreThere}

@@ -2,8 +2,9 @@
 use Rattle.std.specs.Prelude.{◌≡◌, ℕ, Bool, true, false, ◌&&◌, ◌||◌, ◌==◌, List, [], ◌∷◌, bytes_eq}
 use Rattle.std.specs.List.{AllByRecursion}
 use Rattle.c_typing.specs.Expressions.{Denoted, Object}
-use Rattle.c_file.specs.Names.{FileName, Defining, is_defined}
-use Rattle.c_file.specs.Files.{State, Called}
+use Rattle.c_linkage.specs.Names.{FileName, Defining, is_defined}
+use Rattle.c_file.specs.Files.{State}
+use Rattle.c_linkage.specs.Wanted.{Called}
 
 -- a declared name of a file has to be defined
 abbrev pub is_wanted : List Called → ℕ → List ℕ → Bool

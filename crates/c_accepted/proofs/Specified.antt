@@ -19,7 +19,7 @@ use Rattle.c_scope.specs.Environment.{Environment, struct_of}
 use Rattle.c_scope.specs.Findings.{Finding, fine, nothing, ◌beside◌, holds}
 use Rattle.c_scope.specs.Declarators.{Shape, Object, Function, shape, name_in}
 use Rattle.c_struct.specs.Structs.{Written, written, Open, written_names, object_member, member, members, IsRow, IsRowOf, Completes, same_members, agrees, completed_found}
-use Rattle.c_file.proofs.Telling.{same_plain}
+use Rattle.c_linkage.proofs.Telling.{same_plain}
 use Rattle.c_accepted.specs.Grown.{IsMade, IsHeld, Grows}
 use Rattle.c_accepted.proofs.Completed.{IsSound, AreSound, Extends, Agree}
 use Rattle.c_accepted.proofs.Growth.{both_parts}

@@ -21,8 +21,10 @@ use Rattle.c_scope.specs.Declarators.{Shape, Object, Function, shape}
 use Rattle.c_scope.specs.Findings.{nothing}
 use Rattle.c_initial.specs.Initials.{initial_found}
 use Rattle.c_initial.specs.Begins.{strings_of, begins_of}
-use Rattle.c_file.specs.Names.{FileName, name_found}
-use Rattle.c_file.specs.Files.{State, Started, type_or, standing, manner_of, with_name, with_head, with_strings, with_definition, row_of, function_row, after_all, after_name, after_what, after_function, what, declared_found, found_as, all_found, initial_or_none, with_spec, Externals}
+use Rattle.c_linkage.specs.Names.{FileName, name_found}
+use Rattle.c_file.specs.Files.{State, manner_of, with_name, with_head, with_strings, with_definition, row_of, function_row, after_all, after_name, after_what, after_function, what, declared_found, found_as, all_found, initial_or_none, with_spec, Externals}
+use Rattle.c_linkage.specs.Wanted.{Started}
+use Rattle.c_linkage.specs.Types.{type_or, standing}
 use Rattle.c_accepted.specs.Grown.{Grows}
 use Rattle.c_accepted.proofs.Completed.{AreSound}
 use Rattle.c_accepted.specs.Sources.{IsInitializer, IsInitialized, IsDeclared, IsText}

@@ -5,7 +5,7 @@ use Rattle.c_typing.specs.Plain.{Plain, Char, Int, Unsigned, Void, Pointer, Arra
 use Rattle.c_typing.specs.Declarations.{is_result}
 use Rattle.c_typing.specs.Expressions.{Denoted, Object, Function, Hidden}
 use Rattle.c_defs.specs.Depths.{deepest}
-use Rattle.c_file.specs.Names.{bounded_one, composite}
+use Rattle.c_linkage.specs.Names.{bounded_one, composite}
 use Rattle.c_accepted.specs.Grown.{IsMade, Grows}
 use Rattle.c_accepted.proofs.Written.{IsLimited, IsNamed, within_grows}
 use Rattle.c_accepted.proofs.Completing.{made_grows}

@@ -26,7 +26,7 @@ use Rattle.c_initial.specs.Initials.{Spot, spot, text_of, number, number_in, fit
 use Rattle.c_initial.specs.Begins.{Begin, Bits, Text, bits_of, character, characters, spot_begin, address_begin}
 use Rattle.c_file.specs.Files.{State}
 use Rattle.c_file.specs.Made.{started}
-use Rattle.c_file.proofs.Telling.{same_plain}
+use Rattle.c_linkage.proofs.Telling.{same_plain}
 use Rattle.c_accepted.proofs.Growth.{both_parts}
 use Rattle.c_accepted.proofs.KindsOfLeaves.{times_of, kinds_of, Hold}
 use Rattle.c_accepted.proofs.Filled.{ValueGives}

@@ -19,11 +19,12 @@ use Rattle.c_scope.specs.Environment.{Environment}
 use Rattle.c_scope.specs.Declarators.{Shape, Object, Function, denoted, shape}
 use Rattle.c_scope.specs.Findings.{Fine, fine, nothing, holds}
 use Rattle.c_initial.specs.Initials.{text_of, fits, initial_found, with_bound}
-use Rattle.c_file.specs.declared.definitions.Manner.{Manner}
-use Rattle.c_file.specs.declared.definitions.Manner.TheVariants.{Body}
-use Rattle.c_file.specs.Names.{FileName, Defining, name_found}
-use Rattle.c_file.specs.Telling.{is_unbounded}
-use Rattle.c_file.specs.Files.{State, type_or, object_type, in_limits, may_stand, is_extern, standing, manner_of, defining, with_name, with_strings, with_definition, row_of, function_row, after_all, after_name, after_what, after_function, what, declared_found, found_as, all_found, initial_or_none, with_spec, Externals}
+use Rattle.c_linkage.specs.declared.definitions.Manner.{Manner}
+use Rattle.c_linkage.specs.declared.definitions.Manner.TheVariants.{Body}
+use Rattle.c_linkage.specs.Names.{FileName, Defining, name_found}
+use Rattle.c_linkage.specs.Telling.{is_unbounded}
+use Rattle.c_file.specs.Files.{State, manner_of, defining, with_name, with_strings, with_definition, row_of, function_row, after_all, after_name, after_what, after_function, what, declared_found, found_as, all_found, initial_or_none, with_spec, Externals}
+use Rattle.c_linkage.specs.Types.{type_or, object_type, in_limits, may_stand, is_extern, standing}
 use Rattle.c_accepted.specs.Grown.{Grows}
 use Rattle.c_accepted.specs.Sources.{IsInitialized, IsDeclared, IsText}
 use Rattle.c_accepted.proofs.Declarations.{IsWholeIn}

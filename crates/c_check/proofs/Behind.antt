@@ -1,18 +1,20 @@
 -- The first fault behind the last file, by what the code finds.
 use Rattle.std.proofs.Common.{◌≡◌, ℕ, Bool, true, false, not, ◌&&◌, ◌||◌, ◌==◌, cond, List, [], ◌∷◌, map, ◌∙◌, sym, refl, ap, subst, Option, Some, None, option_map, nat_le, if◌then◌else◌, codes}
 use Rattle.std.specs.List.{find}
-use Rattle.c_file.specs.declared.state.State.{State as Standing}
-use Rattle.c_file.specs.declared.state.Called.{Called as CalledRow}
-use Rattle.c_file.specs.declared.state.Awaited.{Awaited as AwaitedRow}
-use Rattle.c_check.specs.declared.defined.DefinedNames.{DefinedNames}
+use Rattle.c_linkage.specs.declared.state.State.{State as Standing}
+use Rattle.c_linkage.specs.declared.state.Called.{Called as CalledRow}
+use Rattle.c_linkage.specs.declared.state.Awaited.{Awaited as AwaitedRow}
+use Rattle.c_rows.specs.declared.defined.DefinedNames.{DefinedNames}
 use Rattle.c_scope.specs.Findings.{holds}
-use Rattle.c_file.specs.Names.{FileName, Defining, defining, is_built_in, is_defined, twice}
+use Rattle.c_linkage.specs.Names.{FileName, Defining, defining, is_built_in, is_defined, twice}
 use Rattle.c_file.specs.Files.{State}
-use Rattle.c_check.specs.Sets.{defined_in}
-use Rattle.c_file.specs.Standing.{Stands, told, called, awaited}
+use Rattle.c_rows.specs.Sets.{defined_in}
+use Rattle.c_file.specs.Standing.{Stands, told}
+use Rattle.c_linkage.specs.Wanted.{called, awaited}
 use Rattle.c_check.specs.Faulty.{fault_of}
-use Rattle.c_file.specs.Programs.{Told, Well, Breaks, in_file, ◌before◌, Fault, Rule, Twice, Undefined, NoMain, greatest_bound, late_found, is_static_in, uncalled, or_name, missing, has_main, behind_rules, first_fault}
-use Rattle.c_check.specs.Behind.{is_row_past, is_row_uncalled, called_name, uncalled_in, missing_in}
+use Rattle.c_file.specs.Programs.{Told, Well, Breaks, in_file, ◌before◌, Fault, Rule, Twice, Undefined, NoMain, late_found, uncalled, missing, has_main, behind_rules, first_fault}
+use Rattle.c_linkage.specs.Bounds.{greatest_bound, is_static_in, or_name}
+use Rattle.c_rows.specs.Behind.{is_row_past, is_row_uncalled, called_name, uncalled_in, missing_in}
 
 -- ---- places past the end of their objects
 

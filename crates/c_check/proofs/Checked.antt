@@ -3,14 +3,16 @@ use Rattle.std.proofs.Common.{◌≡◌, ℕ, suc, Bool, true, false, List, [], 
 use Rattle.c_trees.specs.declared.unit.External.{External}
 use Rattle.c_trees.specs.declared.unit.Unit.{Unit as File}
 use Rattle.c_tree.specs.declared.rows.Program.{Program}
-use Rattle.c_file.specs.declared.state.State.{State as Standing}
-use Rattle.c_file.specs.declared.state.FileFault.{FileFault}
-use Rattle.c_file.specs.declared.state.FileFault.TheVariants as files
+use Rattle.c_linkage.specs.declared.state.State.{State as Standing}
+use Rattle.c_linkage.specs.declared.state.FileFault.{FileFault}
+use Rattle.c_linkage.specs.declared.state.FileFault.TheVariants as files
 use Rattle.c_check.specs.declared.faults.CheckFault.{CheckFault}
 use Rattle.c_check.specs.declared.faults.CheckFault.TheVariants as code
-use Rattle.c_file.specs.Names.{twice}
+use Rattle.c_linkage.specs.Names.{twice}
 use Rattle.c_file.specs.Files.{State}
-use Rattle.c_file.specs.Programs.{any, many, Told, Well, Lacks, Breaks, Fault, Arguments, Rule, Twice, Undefined, NoMain, has_main, uncalled, or_name, Faults, FaultsAs, AllFiles, tags_of, at_first, ◌before◌, late_found, first_fault, behind_rules, externals_of}
+use Rattle.c_file.specs.Programs.{any, many, Told, Well, Lacks, Breaks, Fault, Arguments, Rule, Twice, Undefined, NoMain, has_main, uncalled, Faults, FaultsAs, AllFiles, at_first, ◌before◌, late_found, first_fault, behind_rules}
+use Rattle.c_linkage.specs.Bounds.{or_name}
+use Rattle.c_linkage.specs.FileTags.{tags_of, externals_of}
 use Rattle.c_file.specs.Standing.{Stands, told, LooksThrough}
 use Rattle.c_check.specs.Faulty.{IsTold, IsNotSize, fault_of, Checks}
 use Rattle.c_check.specs.Tables.{IsMade, IsFinished, refused_by}

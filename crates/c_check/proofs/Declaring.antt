@@ -15,7 +15,8 @@ use Rattle.c_trees.specs.declared.statement.Head.TheVariants as head
 use Rattle.c_trees.specs.declared.unit.External.{External}
 use Rattle.c_trees.specs.declared.unit.External.TheVariants.{Declaration, Definition}
 use Rattle.c_defs.specs.Depths.{deepest}
-use Rattle.c_file.specs.Programs.{Rule, Faults, AllFiles, Well, at_first, tags_of}
+use Rattle.c_file.specs.Programs.{Rule, Faults, AllFiles, Well, at_first}
+use Rattle.c_linkage.specs.FileTags.{tags_of}
 use Rattle.c_file.specs.Files.{State}
 use Rattle.c_check.proofs.Examples.{at, main_with}
 

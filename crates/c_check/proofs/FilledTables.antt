@@ -9,18 +9,19 @@ use Rattle.c_tree.specs.declared.rows.SymbolRow.{SymbolRow}
 use Rattle.c_tree.specs.declared.rows.UnitRow.{UnitRow}
 use Rattle.c_tree.specs.declared.rows.Function.{Function}
 use Rattle.c_typing.specs.Plain.{plain}
-use Rattle.c_file.specs.declared.definitions.Definition.{Definition}
-use Rattle.c_file.specs.declared.state.State.{State as Standing}
+use Rattle.c_linkage.specs.declared.definitions.Definition.{Definition}
+use Rattle.c_linkage.specs.declared.state.State.{State as Standing}
 use Rattle.c_check.specs.declared.tables.Rows.{Rows}
 use Rattle.c_mentions.specs.Tags.{now}
-use Rattle.c_file.specs.Names.{Defining, defining}
+use Rattle.c_linkage.specs.Names.{Defining, defining}
 use Rattle.c_file.specs.Files.{State}
 use Rattle.c_file.specs.Standing.{Stands, AreFunctions}
-use Rattle.c_check.specs.Rooms as rooms
-use Rattle.c_check.specs.Rooms.{text_room}
-use Rattle.c_check.specs.Units.{file_of, files_functions, functions_by}
+use Rattle.c_rows.specs.Rooms as rooms
+use Rattle.c_rows.specs.Rooms.{text_room}
+use Rattle.c_rows.specs.Units.{file_of, files_functions, functions_by}
 use Rattle.c_check.specs.Tables.{IsFrom, AreAll}
-use Rattle.c_file.specs.Made.{Each, objects_from, bodies_of, objects, object_type, object_room, string_room, room, IsObjectOf, IsSymbolOf, IsFunctionOf, AreUnits, HasRows}
+use Rattle.c_file.specs.Made.{Each, objects, object_type, object_room, string_room, room, IsObjectOf, IsSymbolOf, IsFunctionOf, AreUnits, HasRows}
+use Rattle.c_linkage.specs.Defined.{objects_from, bodies_of}
 use Rattle.c_check.proofs.RowsMade.{units_made}
 
 pub from_state : (n : ℕ) (s : Standing) (q : State) (ds os bs : List Definition) (ts : List CType) → Stands n s q → ds ≡ s.definitions.items

@@ -1,15 +1,17 @@
 -- The code's maps find what names mean.
 use Rattle.std.proofs.Common.{◌≡◌, ℕ, Bool, true, false, ◌&&◌, ◌||◌, List, [], ◌∷◌, ◌++◌, reverse, ◌∙◌, sym, refl, ap, if◌then◌else◌}
 use Rattle.std.proofs.lemmas.List.{reverse-append}
-use Rattle.c_check.specs.declared.places.Places.{Places}
-use Rattle.c_file.specs.Names.{FileName, Defining, is_here, one_linkage}
-use Rattle.c_file.specs.FileNames.{AreConsistent}
-use Rattle.c_file.specs.Programs.{is_static_in}
+use Rattle.c_rows.specs.declared.places.Places.{Places}
+use Rattle.c_linkage.specs.Names.{FileName, Defining, is_here, one_linkage}
+use Rattle.c_linkage.specs.FileNames.{AreConsistent}
+use Rattle.c_linkage.specs.Bounds.{is_static_in}
 use Rattle.c_file.specs.Files.{State}
-use Rattle.c_file.specs.Made.{objects, bodies_of, number_from}
-use Rattle.c_check.specs.Linked.{linked_in}
-use Rattle.c_check.specs.Fresh.{sees}
-use Rattle.c_check.specs.Placed.{ArePlaces, has_static, is_static_one}
+use Rattle.c_file.specs.Made.{objects}
+use Rattle.c_linkage.specs.Defined.{bodies_of, number_from}
+use Rattle.c_rows.specs.Linked.{linked_in}
+use Rattle.c_rows.specs.Fresh.{sees}
+use Rattle.c_rows.specs.Placed.{has_static, is_static_one}
+use Rattle.c_check.specs.Placing.{ArePlaces}
 use Rattle.c_check.proofs.TypesTold.{Where, linked_as}
 
 or_assoc : (a b c : Bool) → (a || (b || c)) ≡ ((a || b) || c)

@@ -13,22 +13,25 @@ use Rattle.c_typing.specs.Expressions.{Object, Function}
 use Rattle.c_judge.specs.Judges.{denoted}
 use Rattle.c_judge.specs.declared.symbol.Symbol.{Symbol}
 use Rattle.c_scope.specs.declared.link.Link.{Link}
-use Rattle.c_file.specs.declared.definitions.Definition.{Definition}
-use Rattle.c_check.specs.declared.places.Places.{Places}
-use Rattle.c_check.specs.declared.object_rows.Starts.{Starts as Kept}
+use Rattle.c_linkage.specs.declared.definitions.Definition.{Definition}
+use Rattle.c_rows.specs.declared.places.Places.{Places}
+use Rattle.c_rows.specs.declared.object_rows.Starts.{Starts as Kept}
 use Rattle.c_scope.specs.Environment.{Row}
 use Rattle.c_scope.specs.Table.{row, rows}
-use Rattle.c_file.specs.FileNumbers.{number_at}
-use Rattle.c_file.specs.Names.{Defining, defining}
+use Rattle.c_linkage.specs.FileNumbers.{number_at}
+use Rattle.c_linkage.specs.Names.{Defining, defining}
 use Rattle.c_initial.specs.Begins.{Begin, Bits, Within, Text, zeros}
-use Rattle.c_file.specs.Files.{State, Started, Bodied}
-use Rattle.c_file.specs.declared.state.Started.{Started as StartedRow}
-use Rattle.c_file.specs.Standing as standing
-use Rattle.c_check.specs.Placed.{ArePlaces, start_by, refers_by, local_or, referent_by, function_or_none}
-use Rattle.c_check.specs.Objects.{start_number, started_at, begins_or, starts_by, AreStarts, object_said, said_by, said_all}
-use Rattle.c_check.specs.Symbols as symbols
-use Rattle.c_check.specs.Symbols.{symbol_said, symbol_by, symbols_by}
-use Rattle.c_check.specs.Units.{file_of, files_functions, functions_by}
+use Rattle.c_file.specs.Files.{State, Bodied}
+use Rattle.c_linkage.specs.Wanted.{Started}
+use Rattle.c_linkage.specs.declared.state.Started.{Started as StartedRow}
+use Rattle.c_linkage.specs.Wanted as standing
+use Rattle.c_rows.specs.Placed.{start_by, refers_by, local_or, referent_by, function_or_none}
+use Rattle.c_check.specs.Placing.{ArePlaces}
+use Rattle.c_rows.specs.Objects.{start_number, started_at, begins_or, starts_by, object_said, said_by, said_all}
+use Rattle.c_check.specs.Placing.{AreStarts}
+use Rattle.c_rows.specs.Symbols as symbols
+use Rattle.c_rows.specs.Symbols.{symbol_said, symbol_by, symbols_by}
+use Rattle.c_rows.specs.Units.{file_of, files_functions, functions_by}
 use Rattle.c_judge.specs.Scope.{or_else_number}
 use Rattle.c_file.specs.Made as made
 use Rattle.c_file.specs.Made.{Each, objects, object_type, object_number, function_number, started, begins_in, IsObjectOf, IsFunctionOf, IsSymbolOf, referent_of, referent, type_of_name, functions_of, AreUnits}

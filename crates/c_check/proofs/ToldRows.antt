@@ -4,11 +4,11 @@ use denote.Ref.{Bor}
 use Rattle.std.specs.Prelude.{IfOk}
 use Rattle.c_tree.specs.declared.types.CType.{CType}
 use Rattle.c_typing.specs.Plain.{Plain, plain}
-use Rattle.c_file.specs.declared.definitions.Definition.{Definition}
-use Rattle.c_file.specs.declared.file_names.FileName.{FileName as Row}
-use Rattle.c_file.specs.Names.{FileName, Defining, defining, is_here, is_external}
-use Rattle.c_file.specs.FileNames.{file_name, AreConsistent}
-use Rattle.c_file.specs.Telling.{telling}
+use Rattle.c_linkage.specs.declared.definitions.Definition.{Definition}
+use Rattle.c_linkage.specs.declared.file_names.FileName.{FileName as Row}
+use Rattle.c_linkage.specs.Names.{FileName, Defining, defining, is_here, is_external}
+use Rattle.c_linkage.specs.FileNames.{file_name, AreConsistent}
+use Rattle.c_linkage.specs.Telling.{telling}
 use Rattle.c_file.specs.Files.{State}
 use Rattle.c_file.specs.Made.{object_type}
 use Rattle.c_check.specs.TypesTold.{IsToldOf}

@@ -3,11 +3,12 @@ use Rattle.std.proofs.Common.{◌≡◌, ℕ, zero, suc, Bool, true, false, not,
 use Rattle.std.proofs.lemmas.Slice.Eq.{bytes_eq-Decides}
 use Rattle.c_typing.specs.Plain.{Plain, Char, Int, Unsigned, Void, Pointer, Array, Struct, same}
 use Rattle.c_typing.specs.Expressions.{Denoted, Object, Function, Hidden}
-use Rattle.c_file.specs.Names.{FileName, Defining, agree, agree_as, bounded_one, composite, is_here, is_external, is_same, one_linkage, one_type}
-use Rattle.c_file.specs.FileNames.{AreConsistent}
-use Rattle.c_file.specs.Telling.{is_open, more_told, telling, told_with}
+use Rattle.c_linkage.specs.Names.{FileName, Defining, agree, agree_as, bounded_one, composite, is_here, is_external, is_same, one_linkage, one_type}
+use Rattle.c_linkage.specs.FileNames.{AreConsistent}
+use Rattle.c_linkage.specs.Telling.{is_open, more_told, telling, told_with}
 use Rattle.c_file.specs.Programs.{is_object}
-use Rattle.c_file.specs.Files.{State, type_or}
+use Rattle.c_file.specs.Files.{State}
+use Rattle.c_linkage.specs.Types.{type_or}
 use Rattle.c_file.specs.Made.{type_in, first_type, as_name, object_type}
 
 -- ---- truth

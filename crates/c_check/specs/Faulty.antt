@@ -2,11 +2,12 @@
 use Rattle.std.specs.Prelude.{◌≡◌, ◌<◌, ℕ, false, List, Option, Some, None, Result, Ok, Err}
 use Rattle.c_trees.specs.declared.unit.External.{External}
 use Rattle.c_tree.specs.declared.rows.Program.{Program}
-use Rattle.c_file.specs.declared.state.State.{State as Standing}
+use Rattle.c_linkage.specs.declared.state.State.{State as Standing}
 use Rattle.c_check.specs.declared.faults.CheckFault.{CheckFault}
 use Rattle.c_check.specs.declared.faults.CheckFault.TheVariants as code
 use Rattle.c_file.specs.Files.{State}
-use Rattle.c_file.specs.Programs.{any, many, Fault, Arguments, Rule, Twice, Undefined, NoMain, Faults, Well, AllFiles, tags_of, at_first, ◌before◌, late_found, first_fault}
+use Rattle.c_file.specs.Programs.{any, many, Fault, Arguments, Rule, Twice, Undefined, NoMain, Faults, Well, AllFiles, at_first, ◌before◌, late_found, first_fault}
+use Rattle.c_linkage.specs.FileTags.{tags_of}
 use Rattle.c_file.specs.Made.{HasRows, room}
 use Rattle.c_file.specs.Standing.{Stands, told}
 

@@ -1,12 +1,4 @@
-pub mod Sets
-pub mod Behind
 pub mod Faulty
-pub mod Fresh
-pub mod Linked
-pub mod Objects
-pub mod Placed
-pub mod Rooms
-pub mod Symbols
 pub mod TypesTold
-pub mod Units
+pub mod Placing
 pub mod Tables

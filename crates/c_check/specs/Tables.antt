@@ -3,20 +3,22 @@ use Rattle.std.specs.Prelude.{◌≡◌, ◌≤◌, ◌<◌, ℕ, List, map, Non
 use Rattle.c_tree.specs.declared.types.CType.{CType}
 use Rattle.c_tree.specs.declared.rows.Program.{Program}
 use Rattle.c_typing.specs.Plain.{plain}
-use Rattle.c_file.specs.declared.definitions.Definition.{Definition}
-use Rattle.c_file.specs.declared.state.State.{State as Standing}
-use Rattle.c_file.specs.declared.state.FileFault.{FileFault}
-use Rattle.c_file.specs.declared.state.FileFault.TheVariants as files
+use Rattle.c_linkage.specs.declared.definitions.Definition.{Definition}
+use Rattle.c_linkage.specs.declared.state.State.{State as Standing}
+use Rattle.c_linkage.specs.declared.state.FileFault.{FileFault}
+use Rattle.c_linkage.specs.declared.state.FileFault.TheVariants as files
 use Rattle.c_check.specs.declared.faults.CheckFault.{CheckFault}
 use Rattle.c_check.specs.declared.faults.CheckFault.TheVariants as code
 use Rattle.c_check.specs.declared.tables.Tables.{Tables as Kept}
 use Rattle.c_check.specs.declared.tables.Rows.{Rows}
 use Rattle.c_scope.specs.Here.{environment_of}
-use Rattle.c_file.specs.Names.{defining}
+use Rattle.c_linkage.specs.Names.{defining}
 use Rattle.c_file.specs.Files.{State}
-use Rattle.c_file.specs.Standing.{Stands, started}
+use Rattle.c_file.specs.Standing.{Stands}
+use Rattle.c_linkage.specs.Wanted.{started}
 use Rattle.c_check.specs.Faulty.{fault_of, IsTold}
-use Rattle.c_file.specs.Made.{Each, objects, bodies_of, object_type, room, IsObjectOf, IsSymbolOf, AreUnits, HasRows}
+use Rattle.c_file.specs.Made.{Each, objects, object_type, room, IsObjectOf, IsSymbolOf, AreUnits, HasRows}
+use Rattle.c_linkage.specs.Defined.{bodies_of}
 
 -- the definitions and the types of a program's objects, and its functions with bodies
 pub record IsFrom (s : Standing) (os bs : List Definition) (ts : List CType) (q : State) : Type 0 where

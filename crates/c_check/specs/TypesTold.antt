@@ -1,10 +1,11 @@
 -- What the code finds of an object's type among the names at file scope.
 use Rattle.std.specs.Prelude.{◌≡◌, List, Option, Some, None}
 use denote.Ref.{Bor}
-use Rattle.c_file.specs.declared.file_names.FileName.{FileName as Row}
+use Rattle.c_linkage.specs.declared.file_names.FileName.{FileName as Row}
 use Rattle.c_scope.specs.Here.{meaning_of}
-use Rattle.c_file.specs.Names.{FileName, Defining}
-use Rattle.c_file.specs.Files.{State, type_or}
+use Rattle.c_linkage.specs.Names.{FileName, Defining}
+use Rattle.c_file.specs.Files.{State}
+use Rattle.c_linkage.specs.Types.{type_or}
 use Rattle.c_file.specs.Made.{object_type}
 
 -- a declaration that tells all that is told of the type of a defined object

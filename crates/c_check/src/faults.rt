@@ -3,9 +3,8 @@ ghost use Rattle.std.specs.Prelude.{Some};
 ghost use Rattle.c_check.specs.Faulty.{IsFaultOf, IsStanding, IsTold, IsNotSize};
 ghost use Rattle.c_file.specs.Programs as told;
 
-use crate::defined::defined_names;
-use crate::missing::{first_past, missing};
-use c_file::{Awaited, State, twice};
+use c_linkage::{Awaited, State, twice};
+use c_rows::{defined_names, first_past, missing};
 use ldb_words::Text;
 use std::alloc::{AllocError, Global};
 

@@ -1,13 +1,14 @@
 // The types of a program's objects, as all of their declarations tell them.
 ghost use Rattle.std.specs.Prelude.{◌≡◌, map, length, vec_len, IfOk};
 ghost use Rattle.c_typing.specs.Plain.{plain};
-ghost use Rattle.c_file.specs.Names.{defining};
-ghost use Rattle.c_file.specs.Files.{State, type_or};
+ghost use Rattle.c_linkage.specs.Names.{defining};
+ghost use Rattle.c_file.specs.Files.{State};
+ghost use Rattle.c_linkage.specs.Types.{type_or};
 ghost use Rattle.c_scope.specs.Here.{meaning_of};
 ghost use Rattle.c_file.specs.Made.{object_type};
 ghost use Rattle.c_check.specs.TypesTold.{IsToldOf};
 
-use c_file::{Definition, FileName, FileNames};
+use c_linkage::{Definition, FileName, FileNames};
 use c_judge::copied;
 use c_scope::Meaning;
 use c_tree::CType;

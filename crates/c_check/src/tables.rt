@@ -1,26 +1,25 @@
 // The tables of a program that has been looked through.
 ghost use Rattle.std.specs.Prelude.{◌≡◌, ℕ, List, map, length, reverse, vec_len, None, IfOk};
 ghost use Rattle.c_mentions.specs.Tags.{now};
-ghost use Rattle.c_file.specs.Names.{defining};
-ghost use Rattle.c_file.specs.FileNames.{file_name, AreConsistent};
+ghost use Rattle.c_linkage.specs.Names.{defining};
+ghost use Rattle.c_linkage.specs.FileNames.{file_name, AreConsistent};
 ghost use Rattle.c_file.specs.Files.{State as Program};
-ghost use Rattle.c_file.specs.Standing.{Stands, started};
-ghost use Rattle.c_file.specs.Made.{objects as objects_of, bodies_of, room};
-ghost use Rattle.c_check.specs.Placed.{ArePlaces};
-ghost use Rattle.c_check.specs.Objects.{AreStarts};
+ghost use Rattle.c_file.specs.Standing.{Stands};
+ghost use Rattle.c_linkage.specs.Wanted.{started};
+ghost use Rattle.c_file.specs.Made.{objects as objects_of, room};
+ghost use Rattle.c_linkage.specs.Defined.{bodies_of};
+ghost use Rattle.c_check.specs.Placing.{ArePlaces};
+ghost use Rattle.c_check.specs.Placing.{AreStarts};
 ghost use Rattle.c_check.specs.Tables.{IsFrom, AreTables, AreAll, AreRows};
 ghost use Rattle.c_judge.specs.Parts.{IsWithinSize};
-ghost use Rattle.c_file.specs.declared.definitions.Definition.{Definition};
+ghost use Rattle.c_linkage.specs.declared.definitions.Definition.{Definition};
 
 use crate::faults::CheckFault;
-use crate::object_rows::{Starts, object_rows, start_numbers};
 use crate::object_types::object_types;
-use crate::objects::{bodies, numbered, objects};
-use crate::places::{Places, static_names};
-use crate::room::room;
-use crate::symbols::symbol_rows;
-use crate::units::unit_rows;
-use c_file::{Definition, FileName, Started, State};
+use c_linkage::{Definition, FileName, Started, State};
+use c_rows::{
+    Places, Starts, bodies, numbered, object_rows, objects, room, start_numbers, static_names, symbol_rows, unit_rows,
+};
 use c_tree::{CType, ObjectRow, StructDef, SymbolRow, UnitRow};
 use ldb_words::Text;
 use std::alloc::{AllocError, Global};

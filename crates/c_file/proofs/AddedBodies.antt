@@ -12,10 +12,10 @@ use Rattle.c_typing.specs.Plain.{Plain, plain}
 use Rattle.c_judge.specs.declared.fault.Fault.{Fault}
 use Rattle.c_judge.specs.declared.fault.Fault.TheVariants as fault
 use Rattle.c_judge.specs.Answers.{Known, Unknown, Broken}
-use Rattle.c_file.specs.declared.definitions.Manner.TheVariants as manner
+use Rattle.c_linkage.specs.declared.definitions.Manner.TheVariants as manner
 use Rattle.c_file.specs.declared.functions.Heading.{Heading}
 use Rattle.c_file.specs.declared.functions.Walked.{Walked}
-use Rattle.c_file.specs.declared.state.State.{State as Standing}
+use Rattle.c_linkage.specs.declared.state.State.{State as Standing}
 use Rattle.c_body.specs.Becoming.{Before, IsBodyOf}
 use Rattle.c_body.specs.Bodies.{after, found, in_function}
 use Rattle.c_scope.specs.Declarators.{Parameter}

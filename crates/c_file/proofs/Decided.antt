@@ -29,8 +29,8 @@ use Rattle.c_scope.specs.Spelling.{initial_at}
 use Rattle.c_typing.specs.Declarations.{is_named}
 use Rattle.c_struct.specs.Structs.{written_names, Open, Written, members, member, object_member, completed_found, Completes}
 use Rattle.c_initial.specs.Initials.{initial_found, value_found, address_found, is_address, part_of, count_of, rule_of, is_aggregate}
-use Rattle.c_file.specs.Names.{FileName, name_found}
-use Rattle.c_file.specs.Files.{may_stand, is_extern, in_limits, object_standing, standing, object_type}
+use Rattle.c_linkage.specs.Names.{FileName, name_found}
+use Rattle.c_linkage.specs.Types.{may_stand, is_extern, in_limits, object_standing, standing, object_type}
 use Rattle.c_struct.specs.Specifies.{Goes, Ends, Inside, Specifies}
 
 abbrev pub IsDecided : {A : Type 0} → Answer A → Type 0

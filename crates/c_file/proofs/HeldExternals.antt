@@ -4,15 +4,16 @@ use Rattle.c_trees.specs.declared.unit.External.{External}
 use Rattle.c_judge.specs.declared.fault.Fault.{Fault}
 use Rattle.c_judge.specs.declared.fault.Fault.TheVariants as fault
 use Rattle.c_judge.specs.Answers.{Answer, Known, Unknown, Broken}
-use Rattle.c_file.specs.declared.state.State.{State as Standing}
-use Rattle.c_file.specs.declared.state.FileFault.{FileFault}
-use Rattle.c_file.specs.declared.state.FileFault.TheVariants as file
+use Rattle.c_linkage.specs.declared.state.State.{State as Standing}
+use Rattle.c_linkage.specs.declared.state.FileFault.{FileFault}
+use Rattle.c_linkage.specs.declared.state.FileFault.TheVariants as file
 use Rattle.c_scope.specs.Environment.{Visible}
 use Rattle.c_file.specs.Files.{State, Externals, AllExternals}
 use Rattle.c_scope.specs.Findings.{Finding, nothing, ◌beside◌}
 use Rattle.c_file.specs.Looked as looked
 use Rattle.c_file.specs.Looked.{Starts, Follows, IsAtFile, Looks}
-use Rattle.c_file.specs.Programs.{Told, Well, Lacks, Breaks, in_file, ◌before◌, AllFiles, at_first, tags_of, next_file, built_ins}
+use Rattle.c_file.specs.Programs.{Told, Well, Lacks, Breaks, in_file, ◌before◌, AllFiles, at_first, next_file, built_ins}
+use Rattle.c_linkage.specs.FileTags.{tags_of}
 use Rattle.c_file.specs.Progress.{so_far, found_so_far, IsSoFar, Onto, GoesOn}
 use Rattle.c_file.specs.Standing.{Stands, AreFunctions, told, LooksThrough}
 use Rattle.c_file.specs.Made.{Each, IsFunctionOf}

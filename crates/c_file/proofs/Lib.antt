@@ -1,11 +1,4 @@
-mod Once
-mod Agreeing
-mod Again
-pub mod Telling
-mod Pairs
-mod NumberedRows
 mod Decided
-mod Limited
 mod Going
 mod Grown
 mod LocalRows

@@ -12,17 +12,18 @@ use Rattle.c_judge.specs.declared.fault.Fault.{Fault}
 use Rattle.c_judge.specs.declared.fault.Fault.TheVariants as fault
 use Rattle.c_judge.specs.Answers.{Answer, Known, Unknown, Broken, ◌then◌}
 use Rattle.c_judge.specs.Judges.{IsFault}
-use Rattle.c_file.specs.declared.state.State.{State as Standing}
+use Rattle.c_linkage.specs.declared.state.State.{State as Standing}
 use Rattle.c_initial.specs.Begins.{Begin, begins_of, strings_of}
 use Rattle.c_scope.specs.Declarators as shape
 use Rattle.c_scope.specs.Declarators.{Shape, Parameter, parameter_type, name_in, denoted}
 use Rattle.c_scope.specs.Environment.{Environment}
-use Rattle.c_file.specs.Files.{function_row, with_head, with_declarator, State, Bodied, is_static, file_name, row_of, with_name, with_strings, with_definition, after_what, found_as, initial_or_none, wanting, manner_of, defining, standing, object_standing, object_type}
+use Rattle.c_file.specs.Files.{function_row, with_head, with_declarator, State, Bodied, file_name, row_of, with_name, with_strings, with_definition, after_what, found_as, initial_or_none, wanting, manner_of, defining}
+use Rattle.c_linkage.specs.Types.{is_static, standing, object_standing, object_type}
 use Rattle.c_scope.specs.Findings.{Finding, Fine, fine, nothing, ◌beside◌}
 use Rattle.c_initial.specs.Initials.{Late, late_in, initial_found}
 use Rattle.c_body.specs.Calls.{called_items}
 use Rattle.c_mentions.specs.Literals.{in_declarator, texts}
-use Rattle.c_file.specs.Names.{FileName, name_found}
+use Rattle.c_linkage.specs.Names.{FileName, name_found}
 use Rattle.c_file.specs.Progress.{so_far, found_so_far, KeepsFunctions, Turns, Gains, Fails, Adds, with_given}
 use Rattle.c_file.proofs.Decided.{IsDecided, never}
 use Rattle.c_file.proofs.Going.{adds_both, adds_as, gains_as, fails_so, turns_then, turned, turns_as, then_nothing, three_parts}

@@ -4,7 +4,7 @@ use Rattle.c_trees.specs.declared.unit.External.{External}
 use Rattle.c_judge.specs.declared.fault.Fault.{Fault}
 use Rattle.c_judge.specs.Answers.{Answer, Known, Unknown, Broken}
 use Rattle.c_scope.specs.declared.environment.Environment.{Environment as Here}
-use Rattle.c_file.specs.declared.state.State.{State as Standing}
+use Rattle.c_linkage.specs.declared.state.State.{State as Standing}
 use Rattle.c_scope.specs.Here.{environment_of}
 use Rattle.c_scope.specs.Table.{Names, rows, names_from, outermost}
 use Rattle.c_scope.specs.Environment.{Visible}
@@ -12,7 +12,7 @@ use Rattle.c_file.specs.Files.{State, AllExternals}
 use Rattle.c_scope.specs.Findings.{Finding, nothing, ◌beside◌}
 use Rattle.c_file.specs.Looked.{Follows, IsAtFile}
 use Rattle.c_file.specs.Made.{all_points}
-use Rattle.c_file.specs.Names.{AreWithin}
+use Rattle.c_linkage.specs.Names.{AreWithin}
 use Rattle.c_file.specs.Programs.{built_ins, incomplete, next_file}
 use Rattle.c_file.specs.Progress.{so_far, found_so_far, IsSoFar, Onto}
 use Rattle.c_file.specs.Standing.{Stands, AreFunctions}

@@ -7,10 +7,10 @@ use Rattle.c_trees.specs.declared.declaration.Storage.{Storage}
 use Rattle.c_typing.specs.Plain.{Plain}
 use Rattle.c_typing.specs.Expressions.{Denoted}
 use Rattle.c_judge.specs.Answers.{Answer, Known, Unknown, Broken}
-use Rattle.c_file.specs.declared.definitions.Manner.{Manner}
+use Rattle.c_linkage.specs.declared.definitions.Manner.{Manner}
 use Rattle.c_scope.specs.Environment.{Environment, Visible}
 use Rattle.c_file.specs.Files.{State, with_name, with_strings, with_initial, with_definition, row_of, after_what, after_name, after_all, what, manner_of, defining}
-use Rattle.c_file.specs.Names.{FileName, Defining}
+use Rattle.c_linkage.specs.Names.{FileName, Defining}
 use Rattle.c_file.specs.Progress.{Onto}
 use Rattle.c_file.proofs.Standings.{IsOrdered, one_ordered, none_behind}
 

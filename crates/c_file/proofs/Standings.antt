@@ -3,13 +3,13 @@ use Rattle.std.proofs.Common.{◌≡◌, ◌≤◌, ◌<◌, ◌++◌, ◌∷◌
 use Rattle.c_tree.specs.declared.rows.Function.{Function}
 use Rattle.c_tree.specs.declared.rows.Point.{Point}
 use Rattle.c_judge.specs.Answers.{Answer, Known, Unknown, Broken}
-use Rattle.c_file.specs.declared.state.State.{State as Standing}
+use Rattle.c_linkage.specs.declared.state.State.{State as Standing}
 use Rattle.c_scope.specs.Environment.{Environment, Row, Visible}
 use Rattle.c_file.specs.Files.{State, Bodied}
 use Rattle.c_scope.specs.Findings.{Finding, Fine, fine, nothing, ◌beside◌}
 use Rattle.c_file.specs.Made as made
 use Rattle.c_file.specs.Made.{Each, IsFunctionOf, all_points, points_from, all_stops, local_rows}
-use Rattle.c_file.specs.Names.{Defining, IsBefore, AreInOrder, AreWithin}
+use Rattle.c_linkage.specs.Names.{Defining, IsBefore, AreInOrder, AreWithin}
 use Rattle.c_file.specs.Progress.{so_far, found_so_far, KeepsFunctions, IsSoFar, Onto}
 use Rattle.c_file.specs.Standing.{Stands, AreFunctions}
 use Rattle.c_body.specs.Stops.{Stop}

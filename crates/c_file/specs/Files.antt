@@ -1,5 +1,5 @@
 -- What is found in the external declarations of a file (C90 6.7), in their order over all files.
-use Rattle.std.specs.Prelude.{◌≡◌, ℕ, zero, suc, ◌+◌, Bool, true, false, not, ◌&&◌, ◌||◌, ◌==◌, if◌then◌else◌, List, [], ◌∷◌, ◌++◌, map, length, Option, Some, None}
+use Rattle.std.specs.Prelude.{◌≡◌, ℕ, ◌+◌, Bool, true, false, not, ◌&&◌, List, [], ◌∷◌, ◌++◌, length, Option, Some, None}
 use Rattle.c_lex.specs.declared.token.Place.{Place}
 use Rattle.c_trees.specs.Declarators.{DeclaratorTree, begins}
 use Rattle.c_trees.specs.Initializers.{InitialTree}
@@ -16,37 +16,28 @@ use Rattle.c_trees.specs.Statements.{StatementTree, Closed}
 use Rattle.c_trees.specs.declared.unit.External.{External}
 use Rattle.c_trees.specs.declared.unit.External.TheVariants.{Declaration, Definition}
 use Rattle.c_tree.specs.declared.types.StructDef.{StructDef}
-use Rattle.c_typing.specs.Plain.{Plain, Array, Struct, is_complete}
+use Rattle.c_typing.specs.Plain.{Plain}
 use Rattle.c_typing.specs.Expressions as typing
 use Rattle.c_typing.specs.Expressions.{Denoted}
 use Rattle.c_judge.specs.Answers.{Answer, Known, Unknown, Broken, ◌then◌}
-use Rattle.c_judge.specs.Judgement.{spec_type, limited}
+use Rattle.c_judge.specs.Judgement.{spec_type}
 use Rattle.c_scope.specs.Findings.{Finding, nothing, ◌beside◌, holds}
 use Rattle.c_scope.specs.Environment.{Environment, declare_global, declare_local, enter, leave, scope_of, struct_of, Visible, number_of}
 use Rattle.c_body.specs.Calls.{calls_in, called_declarator, called_items, called_spec}
 use Rattle.c_mentions.specs.Literals.{in_declarator, in_file_spec, in_statement, texts}
 use Rattle.c_body.specs.Stops.{inside_block, stops_of}
 use Rattle.c_body.specs.Becoming.{Before}
-use Rattle.c_initial.specs.Begins.{Begin, begins_of, strings_of}
+use Rattle.c_initial.specs.Begins.{begins_of, strings_of}
 use Rattle.c_scope.specs.Declarators.{Shape, Object, Function, Parameter, shape, denoted, name_in}
 use Rattle.c_struct.specs.Structs.{Open, Written, members, Completes, completed_found}
-use Rattle.c_file.specs.declared.definitions.Manner.{Manner}
-use Rattle.c_file.specs.declared.definitions.Manner.TheVariants.{Body, Initialized, Tentative}
-use Rattle.c_file.specs.Names.{FileName, Defining, name_found, told_before, is_built_in}
-use Rattle.c_initial.specs.Initials.{Late, late_in, initial_found, with_bound}
+use Rattle.c_linkage.specs.declared.definitions.Manner.{Manner}
+use Rattle.c_linkage.specs.declared.definitions.Manner.TheVariants.{Body, Initialized, Tentative}
+use Rattle.c_linkage.specs.Names.{FileName, Defining, name_found, told_before, is_built_in}
+use Rattle.c_linkage.specs.Types.{is_static, standing, type_or}
+use Rattle.c_linkage.specs.Wanted.{Called, Awaited, Started}
+use Rattle.c_initial.specs.Initials.{Late, late_in, initial_found}
 use Rattle.c_body.specs.Bodies.{found, in_function, after, is_block}
 use Rattle.c_struct.specs.Specifies.{Specifies}
-
--- a name that has to be defined, of which no visible declaration may stand where it is used
-pub record Called : Type 0 where
-  pub unit : ℕ
-  pub name : List ℕ
-  pub declared : Bool
-
--- a place in an object of a file
-pub record Awaited : Type 0 where
-  pub unit : ℕ
-  pub place : Late
 
 -- a function with a body: what is declared where its body begins, its block, and how many points and strings stand before it
 pub record Bodied : Type 0 where
@@ -58,12 +49,6 @@ pub record Bodied : Type 0 where
   pub here : Environment
   pub block : StatementTree
   pub before : Before
-
--- what an object with an initializer holds at first
-pub record Started : Type 0 where
-  pub name : List ℕ
-  pub unit : ℕ
-  pub begins : List Begin
 
 -- The program so far: what is declared in this file, the structs as the files before complete them, the names at file scope of all files, the last
 -- first, the definitions in order, the names that have to be defined, and the places that only the program's end tells to be within their object; the functions
@@ -82,42 +67,8 @@ pub record State : Type 0 where
 
 -- ---- declared names
 
-abbrev pub is_static : Storage → Bool
-is_static storage.Static = true
-is_static _ = false
-
-abbrev pub is_extern : Storage → Bool
-is_extern storage.Extern = true
-is_extern _ = false
-
 abbrev pub file_name : ℕ → Storage → List ℕ → Denoted → FileName
 file_name u s name d = record { name = name; unit = u; is_static = is_static s; denoted = d }
-
--- 1, 2, 9. An object's type is complete, but that an `extern` declaration may leave the bound to another; a function has no initializer.
-abbrev pub may_stand : Environment → Bool → Plain → (at : ℕ) → Finding
-may_stand v extern (Array t zero) at = holds extern 2 at
-may_stand v extern t at = holds (is_complete v.defs t) 1 at
-
-abbrev pub object_type : Plain → Option InitialTree → Plain
-object_type t None = t
-object_type t (Some i) = with_bound t i
-
--- a complete type is within its limits
-abbrev pub in_limits : Environment → Plain → (at : ℕ) → Answer Plain
-in_limits v t at = if is_complete v.defs t then limited v.defs at t else Known t
-
--- an object of this type, whose bound its initializer may have set
-abbrev pub object_standing : Environment → Storage → Plain → (at : ℕ) → Answer Denoted
-object_standing v s t at = in_limits v t at then λ u. may_stand v (is_extern s) t at then λ _. Known (typing.Object t false)
-
-abbrev pub standing : Environment → Storage → Option InitialTree → (at : ℕ) → Shape → Answer Denoted
-standing v s i at (Object t) = object_standing v s (object_type t i) at
-standing v s None at (Function t ps) = Known (denoted false (Function t ps))
-standing v s (Some i) at (Function t ps) = Broken 9 at
-
-abbrev pub type_or : Denoted → Plain
-type_or (typing.Object t r) = t
-type_or d = Array (Struct 0) 0
 
 -- a name is declared: in scope with what its declarations in the file tell of it
 abbrev pub with_name : State → FileName → State

@@ -1,14 +1,7 @@
-pub mod Names
-pub mod Telling
-pub mod FileNumbers
-pub mod Numbered
-pub mod Known
 pub mod Files
 pub mod Programs
 pub mod Made
-pub mod FileNames
 pub mod Standing
-pub mod Coded
 pub mod Progress
 pub mod Walked
 pub mod Looked

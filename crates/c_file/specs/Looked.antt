@@ -2,9 +2,9 @@
 use Rattle.std.specs.Prelude.{◌≡◌, ◌++◌, [], ℕ, suc, List, length, Option, None, Result, Ok, Err}
 use Rattle.c_trees.specs.declared.unit.External.{External}
 use Rattle.c_scope.specs.declared.environment.Environment.{Environment as Here}
-use Rattle.c_file.specs.declared.state.State.{State as Standing}
-use Rattle.c_file.specs.declared.state.FileFault.{FileFault}
-use Rattle.c_file.specs.declared.state.FileFault.TheVariants as fault
+use Rattle.c_linkage.specs.declared.state.State.{State as Standing}
+use Rattle.c_linkage.specs.declared.state.FileFault.{FileFault}
+use Rattle.c_linkage.specs.declared.state.FileFault.TheVariants as fault
 use Rattle.c_judge.specs.declared.fault.Fault.{Fault}
 use Rattle.c_judge.specs.declared.fault.Fault.TheVariants as broken
 use Rattle.c_judge.specs.Answers.{Broken}

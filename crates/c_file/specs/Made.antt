@@ -1,5 +1,5 @@
 -- Which checked program the files become: its rows, each in the order of the source.
-use Rattle.std.specs.Prelude.{◌≡◌, ◌≤◌, sum, ℕ, zero, suc, ◌+◌, ◌-◌, Bool, true, false, not, ◌&&◌, ◌||◌, ◌==◌, if◌then◌else◌, List, [], ◌∷◌, ◌++◌, map, length, drop, Option, Some, None, bytes_eq}
+use Rattle.std.specs.Prelude.{◌≡◌, ◌≤◌, sum, ℕ, suc, ◌+◌, ◌-◌, ◌&&◌, ◌==◌, if◌then◌else◌, List, [], ◌∷◌, ◌++◌, map, length, drop, Option, Some, None, bytes_eq}
 use Rattle.c_trees.specs.declared.unit.External.{External}
 use Rattle.c_tree.specs.declared.rows.Program.{Program}
 use Rattle.c_tree.specs.declared.rows.UnitRow.{UnitRow}
@@ -21,12 +21,15 @@ use Rattle.c_scope.specs.Environment.{Environment, Row, enter}
 use Rattle.c_body.specs.Bodies.{after}
 use Rattle.c_body.specs.Stops.{Stop, stops_of, inside_block}
 use Rattle.c_body.specs.Becoming.{Before, IsBodyOf}
-use Rattle.c_file.specs.declared.definitions.Manner.{Manner}
-use Rattle.c_file.specs.declared.definitions.Manner.TheVariants.{Body, Initialized, Tentative}
-use Rattle.c_file.specs.Names.{FileName, Defining, is_same, composite, defines}
+use Rattle.c_linkage.specs.Names.{FileName, Defining, is_same, composite}
+use Rattle.c_linkage.specs.Defined.{objects_from, bodies_of, number_from}
 use Rattle.c_initial.specs.Begins.{Begin, Bits, Within, Text, zeros}
-use Rattle.c_file.specs.Files.{State, Bodied, Started, type_or}
-use Rattle.c_file.specs.Programs.{is_static_in, tags_of, at_first, AllFiles, Well}
+use Rattle.c_file.specs.Files.{State, Bodied}
+use Rattle.c_linkage.specs.Wanted.{Started}
+use Rattle.c_linkage.specs.Types.{type_or}
+use Rattle.c_file.specs.Programs.{at_first, AllFiles, Well}
+use Rattle.c_linkage.specs.Bounds.{is_static_in}
+use Rattle.c_linkage.specs.FileTags.{tags_of}
 
 -- a property of the items of two lists at each place
 abbrev pub Each : {A B : Type 0} → (A → B → Type 0) → List A → List B → Type 0
@@ -35,28 +38,6 @@ Each P (x ∷ xs) (y ∷ ys) = P x y × Each P xs ys
 Each P _ _ = ⊥
 
 -- ---- objects
-
-abbrev pub is_body : Manner → Bool
-is_body Body = true
-is_body _ = false
-
-abbrev pub is_on : Defining → List Defining → Bool
-is_on d [] = false
-is_on d (e ∷ es) = ((d.unit == e.unit) && bytes_eq d.name e.name) || is_on d es
-
--- the definitions of objects, each once
-abbrev pub objects_from : List Defining → List Defining → List Defining
-objects_from seen [] = []
-objects_from seen (d ∷ ds) = if is_body d.manner || is_on d seen then objects_from seen ds else d ∷ objects_from (d ∷ seen) ds
-
-abbrev pub bodies_of : List Defining → List Defining
-bodies_of [] = []
-bodies_of (d ∷ ds) = if is_body d.manner then d ∷ bodies_of ds else bodies_of ds
-
--- the number of the first that defines a name of a file
-abbrev pub number_from : ℕ → List Defining → (unit : ℕ) → Bool → List ℕ → Option ℕ
-number_from n [] u s name = None
-number_from n (d ∷ ds) u s name = if defines u s name d then Some n else number_from (suc n) ds u s name
 
 module _ (q : State) where
   abbrev pub objects : List Defining

@@ -1,5 +1,5 @@
 -- What is found wrong with a program of some files (C90 5.1, 6.7), in the order in which faults are told.
-use Rattle.std.specs.Prelude.{◌≡◌, ℕ, zero, suc, ◌+◌, Bool, true, false, not, ◌&&◌, ◌||◌, nat_le, nat_lt, ◌==◌, if◌then◌else◌, List, [], ◌∷◌, ◌++◌, map, length, Option, Some, None, bytes_eq, codes}
+use Rattle.std.specs.Prelude.{◌≡◌, ℕ, zero, suc, ◌+◌, Bool, true, false, not, ◌&&◌, ◌||◌, nat_le, nat_lt, ◌==◌, if◌then◌else◌, List, [], ◌∷◌, ◌++◌, map, length, Option, Some, None, codes}
 use Rattle.c_trees.specs.Declarators.{DeclaratorTree, Name, Parens, Pointers, Array, Function, Taking, Named, Unnamed}
 use Rattle.c_trees.specs.declared.declaration.Declared.{Declared}
 use Rattle.c_trees.specs.declared.declaration.FileSpec.{FileSpec}
@@ -9,7 +9,6 @@ use Rattle.c_trees.specs.declared.declaration.MemberPart.{MemberPart}
 use Rattle.c_trees.specs.declared.declaration.MemberPart.TheVariants.{Opens, Row, Closes}
 use Rattle.c_trees.specs.Statements.{StatementTree, Declares, Also, Closed, If, IfElse, Headed, Do}
 use Rattle.c_trees.specs.declared.unit.External.{External}
-use Rattle.c_trees.specs.declared.unit.Unit.{Unit}
 use Rattle.c_trees.specs.declared.unit.External.TheVariants.{Declaration, Definition}
 use Rattle.c_tree.specs.declared.types.StructDef.{StructDef}
 use Rattle.c_typing.specs.Plain.{Plain, Array, is_empty}
@@ -19,9 +18,11 @@ use Rattle.c_typing.specs.Declarations.{built_in}
 use Rattle.c_judge.specs.Answers.{Answer, Known, Unknown, Broken, ◌then◌}
 use Rattle.c_scope.specs.Findings.{Finding, holds}
 use Rattle.c_scope.specs.Environment.{Environment, Row as NameRow, Visible}
-use Rattle.c_file.specs.Names.{FileName, Defining, is_here, is_external, is_defined, twice, is_built_in, bounded_one}
-use Rattle.c_file.specs.Files.{State, Called, Awaited, AllExternals, Onward}
-use Rattle.c_mentions.specs.Tags.{in_all, in_external, each_once}
+use Rattle.c_linkage.specs.Names.{FileName, Defining, is_defined, twice, is_built_in}
+use Rattle.c_linkage.specs.FileTags.{tags_of}
+use Rattle.c_linkage.specs.Bounds.{greatest_bound, is_static_in, or_name}
+use Rattle.c_file.specs.Files.{State, AllExternals, Onward}
+use Rattle.c_linkage.specs.Wanted.{Called, Awaited}
 
 -- ---- the greatest number of parameters
 
@@ -146,23 +147,9 @@ module _ (tags : List (List ℕ)) where
 
 -- ---- behind the last file
 
--- 12. a place is within its object, whose bound another declaration tells
-abbrev pub bound_in : Denoted → ℕ
-bound_in (typing.Object (Array t n) r) = n
-bound_in d = 0
-
-abbrev pub greatest_bound : List FileName → Awaited → ℕ
-greatest_bound [] l = 0
-greatest_bound (f ∷ fs) l = if is_here l.unit l.place.name f || is_external l.place.name f then (if nat_lt (greatest_bound fs l) (bound_in f.denoted) then bound_in f.denoted else greatest_bound fs l) else greatest_bound fs l
-
 abbrev pub late_found : List FileName → List Awaited → Told
 late_found fs [] = Well
 late_found fs (l ∷ ls) = in_file l.unit (holds ((greatest_bound fs l == 0) || nat_le l.place.items (greatest_bound fs l)) 12 l.place.at) before late_found fs ls
-
--- a name is `static` in a file
-abbrev pub is_static_in : List FileName → ℕ → List ℕ → Bool
-is_static_in [] u name = false
-is_static_in (f ∷ fs) u name = if is_here u name f then f.is_static else is_static_in fs u name
 
 abbrev pub is_object : Denoted → Bool
 is_object (typing.Object t r) = true
@@ -187,10 +174,6 @@ pub data Fault : Type 0 where
   Undefined : (name : List ℕ) → Fault
   NoMain : Fault
 
-abbrev pub or_name : Option (List ℕ) → Option (List ℕ) → Option (List ℕ)
-or_name (Some n) b = Some n
-or_name None b = b
-
 abbrev pub missing : Told → State → Option (List ℕ)
 missing (Lacks name) p = or_name (uncalled p p.calls) (Some name)
 missing f p = uncalled p p.calls
@@ -212,12 +195,6 @@ FaultsBehind tags us x = (f : Told) × (p : State) × AllFiles tags (at_first ta
 abbrev pub FaultsAs : Bool → (tags : List (List ℕ)) → List (List External) → Option Fault → Type 0
 FaultsAs true tags us x = x ≡ Some Arguments
 FaultsAs false tags us x = FaultsBehind tags us x
-
-abbrev pub externals_of : Unit → List External
-externals_of u = u.externals
-
-abbrev pub tags_of : List (List External) → List (List ℕ)
-tags_of us = each_once [] (in_all (in_all in_external) us)
 
 -- the first fault of a program, but for its size, or None
 abbrev pub Faults : List (List External) → Option Fault → Type 0

@@ -9,11 +9,11 @@ use Rattle.c_judge.specs.declared.symbol.Symbol.{Symbol}
 use Rattle.c_judge.specs.declared.fault.Fault.{Fault}
 use Rattle.c_judge.specs.declared.fault.Fault.TheVariants as fault
 use Rattle.c_judge.specs.Answers.{Known, Unknown, Broken}
-use Rattle.c_file.specs.declared.state.State.{State as Standing}
+use Rattle.c_linkage.specs.declared.state.State.{State as Standing}
 use Rattle.c_scope.specs.Here.{environment_of}
 use Rattle.c_mentions.specs.Tags.{now}
 use Rattle.c_scope.specs.Findings.{Finding, Fine, nothing, ◌beside◌}
-use Rattle.c_file.specs.Names.{defining}
+use Rattle.c_linkage.specs.Names.{defining}
 use Rattle.c_file.specs.Files as files
 use Rattle.c_scope.specs.Environment.{Environment, Visible}
 use Rattle.c_file.specs.Files.{State, Bodied, with_spec}
@@ -21,8 +21,9 @@ use Rattle.c_struct.specs.Specifies.{Specifies}
 use Rattle.c_initial.specs.Initials.{Late}
 use Rattle.c_initial.specs.Begins.{Begin}
 use Rattle.c_body.specs.Stops.{Stop}
-use Rattle.c_file.specs.declared.definitions.Manner.TheVariants.{Initialized}
-use Rattle.c_file.specs.Standing.{called, awaited, started, Stands}
+use Rattle.c_linkage.specs.declared.definitions.Manner.TheVariants.{Initialized}
+use Rattle.c_file.specs.Standing.{Stands}
+use Rattle.c_linkage.specs.Wanted.{called, awaited, started}
 
 -- the program so far, where these are its functions with bodies
 abbrev pub so_far : Standing → List Bodied → State

@@ -2,29 +2,18 @@
 use Rattle.std.specs.Prelude.{◌≡◌, ℕ, List, map, length, Option, Some, None, Result, Ok, Err}
 use Rattle.c_trees.specs.declared.unit.External.{External}
 use Rattle.c_tree.specs.declared.rows.Function.{Function}
-use Rattle.c_file.specs.declared.state.State.{State as Standing}
-use Rattle.c_file.specs.declared.state.Called.{Called as CalledRow}
-use Rattle.c_file.specs.declared.state.Awaited.{Awaited as AwaitedRow}
-use Rattle.c_file.specs.declared.state.Started.{Started as StartedRow}
-use Rattle.c_file.specs.declared.state.FileFault.{FileFault}
-use Rattle.c_file.specs.declared.state.FileFault.TheVariants as fault
+use Rattle.c_linkage.specs.declared.state.State.{State as Standing}
+use Rattle.c_linkage.specs.declared.state.FileFault.{FileFault}
+use Rattle.c_linkage.specs.declared.state.FileFault.TheVariants as fault
 use Rattle.c_scope.specs.Here.{environment_of}
 use Rattle.c_mentions.specs.Tags.{now}
-use Rattle.c_initial.specs.Starts.{begins_in, late_place}
-use Rattle.c_file.specs.FileNames.{AreConsistent}
-use Rattle.c_file.specs.Names.{defining, AreInOrder, AreWithin}
-use Rattle.c_file.specs.Files.{State, Called, Awaited, Started, Bodied}
+use Rattle.c_linkage.specs.FileNames.{AreConsistent}
+use Rattle.c_linkage.specs.Names.{defining, AreInOrder, AreWithin}
+use Rattle.c_linkage.specs.Wanted.{called, awaited, started}
+use Rattle.c_file.specs.Files.{State, Bodied}
 use Rattle.c_file.specs.Made.{Each, IsFunctionOf, all_points}
-use Rattle.c_file.specs.Programs.{Told, Well, Lacks, Breaks, tags_of, at_first, AllFiles}
-
-abbrev pub called : CalledRow → Called
-called c = record { unit = c.unit; name = c.name.now; declared = c.declared }
-
-abbrev pub awaited : AwaitedRow → Awaited
-awaited a = record { unit = a.unit; place = late_place a.place }
-
-abbrev pub started : StartedRow → Started
-started s = record { name = s.name.now; unit = s.unit; begins = begins_in s.begins.items }
+use Rattle.c_file.specs.Programs.{Told, Well, Lacks, Breaks, at_first, AllFiles}
+use Rattle.c_linkage.specs.FileTags.{tags_of}
 
 -- the functions, whose statements are there where each name is declared
 abbrev pub AreFunctions : State → Option (List ℕ) → List Function → Type 0

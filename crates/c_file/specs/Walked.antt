@@ -13,11 +13,11 @@ use Rattle.c_judge.specs.declared.fault.Fault.{Fault}
 use Rattle.c_judge.specs.declared.fault.Fault.TheVariants as fault
 use Rattle.c_judge.specs.Answers.{Unknown, Broken}
 use Rattle.c_body.specs.declared.body.Body.{Body}
-use Rattle.c_file.specs.declared.definitions.Manner.TheVariants as manner
+use Rattle.c_linkage.specs.declared.definitions.Manner.TheVariants as manner
 use Rattle.c_file.specs.declared.functions.Heading.{Heading}
 use Rattle.c_file.specs.declared.functions.Inside.{Inside}
 use Rattle.c_file.specs.declared.functions.Walked.{Walked}
-use Rattle.c_file.specs.declared.state.State.{State as Standing}
+use Rattle.c_linkage.specs.declared.state.State.{State as Standing}
 use Rattle.c_scope.specs.declared.table.Mark.{Mark}
 use Rattle.c_body.specs.Becoming.{Before}
 use Rattle.c_body.specs.Bodies.{after, found, in_function}

@@ -6,26 +6,27 @@ ghost use Rattle.c_typing.specs.Expressions as typing;
 ghost use Rattle.c_judge.specs.Answers.{Known};
 ghost use Rattle.c_scope.specs.Declarators as shape;
 ghost use Rattle.c_scope.specs.Declarators.{denoted};
-ghost use Rattle.c_file.specs.FileNames.{file_name};
+ghost use Rattle.c_linkage.specs.FileNames.{file_name};
 ghost use Rattle.c_file.specs.Files as spec;
-ghost use Rattle.c_file.specs.Files.{is_static, standing, with_name, with_definition, with_strings, after_what, found_as, initial_or_none, declared_found, after_name, all_found, after_all};
+ghost use Rattle.c_file.specs.Files.{with_name, with_definition, with_strings, after_what, found_as, initial_or_none, declared_found, after_name, all_found, after_all};
+ghost use Rattle.c_linkage.specs.Types.{is_static, standing};
 ghost use Rattle.c_initial.specs.Initials.{initial_found};
-ghost use Rattle.c_file.specs.Names.{name_found};
+ghost use Rattle.c_linkage.specs.Names.{name_found};
 ghost use Rattle.c_file.specs.Progress.{Adds, Turns, with_given};
 ghost use Rattle.c_scope.specs.Shapes.{parameter_of, shape_of};
-ghost use Rattle.c_file.specs.Standing.{awaited};
+ghost use Rattle.c_linkage.specs.Wanted.{awaited};
 ghost use Rattle.c_initial.specs.Starts.{late_place, begins_in};
 ghost use Rattle.c_mentions.specs.Tags.{now};
 ghost use Rattle.c_body.specs.Calls.{called_items};
 ghost use Rattle.c_scope.specs.Here.{environment_of, meaning_of};
 
-use crate::definitions::{Definition, Manner};
-use crate::file_names::FileName;
 use crate::function_rows::{add_declarator_calls, add_initial_calls};
-use crate::standing::{is_static, object_standing, object_type, parameter_types};
-use crate::state::{Awaited, Called, Started, State};
 use c_initial::{Initialized, LatePlace, initial};
 use c_judge::{Fault, copied};
+use c_linkage::{
+    Awaited, Called, Definition, FileName, Manner, Started, State, is_static, object_standing, object_type,
+    parameter_types,
+};
 use c_mentions::strings_in_declarator;
 use c_scope::{Meaning, Parameter, Shape, declarator_place, name_in, shape};
 use c_tree::CType;

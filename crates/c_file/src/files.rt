@@ -2,17 +2,16 @@
 ghost use Rattle.std.specs.Prelude.{◌≡◌, ◌∷◌, [], map, IfOk, OnOk, None, true, false};
 ghost use Rattle.c_scope.specs.Environment.{innermost};
 ghost use Rattle.c_file.specs.Looked.{HasBuiltIns, IsFirst, Starts, Follows, Looks, in_file};
-ghost use Rattle.c_file.specs.Programs.{externals_of, incomplete, completed_one, completed_by, tags_of};
+ghost use Rattle.c_file.specs.Programs.{incomplete, completed_one, completed_by};
+ghost use Rattle.c_linkage.specs.FileTags.{externals_of, tags_of};
 ghost use Rattle.c_file.specs.Standing.{LooksThrough};
 ghost use Rattle.c_scope.specs.Table.{with_name};
 ghost use Rattle.c_mentions.specs.Tags.{now};
 
 use crate::externals::externals;
-use crate::file_names::FileNames;
-use crate::state::{FileFault, State};
-use crate::tag_numbers::tags_of;
 use c_defs::Structs;
 use c_judge::{Fault, Symbol};
+use c_linkage::{FileFault, FileNames, State, tags_of};
 use c_scope::{Environment, Link, Mark, StructTags, Table};
 use c_tree::{CType, StructDef};
 use c_trees::unit::Unit;

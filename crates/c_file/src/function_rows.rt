@@ -4,15 +4,15 @@ ghost use Rattle.c_typing.specs.Programs.{numbers};
 ghost use Rattle.c_file.specs.Files.{is_visible, called_all};
 ghost use Rattle.c_file.specs.Made.{Each};
 ghost use Rattle.c_file.specs.Progress.{IsLocalOf, points_of};
-ghost use Rattle.c_file.specs.Standing.{called};
+ghost use Rattle.c_linkage.specs.Wanted.{called};
 ghost use Rattle.c_mentions.specs.Tags.{now};
 ghost use Rattle.c_body.specs.Calls.{called_declarator, called_items, called_spec};
 ghost use Rattle.c_body.specs.Walking.{stop_of};
 ghost use Rattle.c_scope.specs.Here.{environment_of};
 
-use crate::state::Called;
 use c_body::{Stop, called_in_declarator, called_in_initial, called_in_spec};
 use c_judge::{Symbol, copied};
+use c_linkage::Called;
 use c_scope::Environment;
 use c_tree::{Local, Point};
 use c_trees::declaration::{Declarator, FileSpec, Initial};

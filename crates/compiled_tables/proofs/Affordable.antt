@@ -4,12 +4,14 @@ use Rattle.std.proofs.Math.Nat.{mul-le-mul_left}
 use Rattle.c_symbol.specs.declared.terminal.Terminal.{Terminal}
 use Rattle.c_trees.specs.declared.unit.External.{External}
 use Rattle.c_tree.specs.declared.rows.Program.{Program}
-use Rattle.c_file.specs.declared.definitions.Manner.{Manner}
-use Rattle.c_file.specs.declared.definitions.Manner.TheVariants.{Body, Initialized, Tentative}
-use Rattle.c_file.specs.Names.{Defining}
+use Rattle.c_linkage.specs.declared.definitions.Manner.{Manner}
+use Rattle.c_linkage.specs.declared.definitions.Manner.TheVariants.{Body, Initialized, Tentative}
+use Rattle.c_linkage.specs.Names.{Defining}
 use Rattle.c_file.specs.Files.{State}
-use Rattle.c_file.specs.Programs.{Well, tags_of, at_first, AllFiles}
-use Rattle.c_file.specs.Made.{is_body, is_on, objects_from, HasRows}
+use Rattle.c_file.specs.Programs.{Well, at_first, AllFiles}
+use Rattle.c_linkage.specs.FileTags.{tags_of}
+use Rattle.c_file.specs.Made.{HasRows}
+use Rattle.c_linkage.specs.Defined.{is_body, is_on, objects_from}
 use Rattle.c_check.specs.Faulty.{Checks}
 use Rattle.c_tokens.specs.Units.{AreSpelled, terminals_in}
 use Rattle.ps_emit.specs.Bounds.{cost_of}

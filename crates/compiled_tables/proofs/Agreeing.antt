@@ -6,8 +6,9 @@ use Rattle.std.proofs.lemmas.Bool.{or_cases}
 use Rattle.std.proofs.lemmas.Slice.Eq.{bytes_eq-Decides}
 use Rattle.c_typing.specs.Plain.{Plain, Char, Int, Unsigned, Void, Pointer, Array, Struct, same}
 use Rattle.c_typing.specs.Expressions.{Denoted, Object, Function, Hidden}
-use Rattle.c_file.specs.Names.{FileName, Defining, agree, agree_as, bounded_one, composite, is_here, is_external, is_same, one_type}
-use Rattle.c_file.specs.Files.{State, type_or}
+use Rattle.c_linkage.specs.Names.{FileName, Defining, agree, agree_as, bounded_one, composite, is_here, is_external, is_same, one_type}
+use Rattle.c_file.specs.Files.{State}
+use Rattle.c_linkage.specs.Types.{type_or}
 use Rattle.c_file.specs.Made.{type_in, first_type, as_name, object_type}
 use Rattle.compiled_tables.specs.Weights.{constructors}
 

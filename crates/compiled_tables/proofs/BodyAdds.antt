@@ -11,7 +11,7 @@ use Rattle.c_judge.specs.Answers.{Known}
 use Rattle.c_scope.specs.Environment.{Row, Environment, innermost, enter}
 use Rattle.c_scope.specs.Declarators.{Parameter, Shape, Object, Function, shape}
 use Rattle.c_mentions.specs.Literals.{Literal, texts, in_declarator, in_statement}
-use Rattle.c_file.specs.Names.{FileName, composite, is_here, told_before}
+use Rattle.c_linkage.specs.Names.{FileName, composite, is_here, told_before}
 use Rattle.c_file.specs.Files.{State, with_name, with_head, function_row, body_environment, bodied, behind_body, after_function}
 use Rattle.compiled_tables.specs.Weights.{Rates, constructors, derived, of_typed, of_global, of_row, of_parameters, of_function, of_head, of_body}
 use Rattle.compiled_tables.proofs.ShapeTypes.{shape_type, shape_more}

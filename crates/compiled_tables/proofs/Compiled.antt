@@ -17,8 +17,9 @@ use Rattle.c_symbol.specs.declared.terminal.Terminal.{Terminal}
 use Rattle.c_trees.specs.declared.unit.External.{External}
 use Rattle.c_tokens.specs.Identifiers.{IsIdentifier, HasIdentifiers}
 use Rattle.c_tokens.specs.Units.{AreSpelled, terminals_in}
-use Rattle.c_file.specs.Programs.{Well, tags_of, at_first, AllFiles}
-use Rattle.c_file.specs.Names.{Defining}
+use Rattle.c_file.specs.Programs.{Well, at_first, AllFiles}
+use Rattle.c_linkage.specs.FileTags.{tags_of}
+use Rattle.c_linkage.specs.Names.{Defining}
 use Rattle.c_file.specs.Files.{State}
 use Rattle.c_file.specs.Made as made
 use Rattle.slot_formed.specs.Tokens.{program_tokens}

@@ -14,7 +14,7 @@ use Rattle.c_typing.specs.Plain.{plain}
 use Rattle.c_typing.specs.Expressions as typing
 use Rattle.c_typing.specs.Expressions.{Denoted}
 use Rattle.c_scope.specs.Environment.{Row}
-use Rattle.c_file.specs.Names.{Defining}
+use Rattle.c_linkage.specs.Names.{Defining}
 use Rattle.c_file.specs.Files.{State}
 use Rattle.c_file.specs.Made.{Each, AreUnits, HasRows, IsObjectOf, IsSymbolOf, IsFunctionOf, objects, object_type, function_number, function_or_none, referent_of, type_of_name}
 use Rattle.ps_emit.specs.Bounds as bounds

@@ -17,10 +17,11 @@ use Rattle.c_scope.specs.Declarators.{Shape, Object, Function, shape, denoted, n
 use Rattle.c_mentions.specs.Literals.{in_tree, in_declarator}
 use Rattle.c_initial.specs.Initials.{count_of, part_of, with_bound}
 use Rattle.c_initial.specs.Begins.{strings_of_value, strings_of}
-use Rattle.c_file.specs.declared.definitions.Manner.{Manner}
-use Rattle.c_file.specs.declared.definitions.Manner.TheVariants.{Body, Initialized, Tentative}
-use Rattle.c_file.specs.Names.{FileName, Defining}
-use Rattle.c_file.specs.Files.{State, with_name, with_initial, with_definition, with_strings, file_name, type_or, defining, manner_of, object_type, in_limits, may_stand, is_extern, standing, what, after_what, after_name, after_all}
+use Rattle.c_linkage.specs.declared.definitions.Manner.{Manner}
+use Rattle.c_linkage.specs.declared.definitions.Manner.TheVariants.{Body, Initialized, Tentative}
+use Rattle.c_linkage.specs.Names.{FileName, Defining}
+use Rattle.c_file.specs.Files.{State, with_name, with_initial, with_definition, with_strings, file_name, defining, manner_of, what, after_what, after_name, after_all}
+use Rattle.c_linkage.specs.Types.{type_or, object_type, in_limits, may_stand, is_extern, standing}
 use Rattle.compiled_tables.specs.Weights.{Rates, AreCovered, total, constructors, derived, literals, literals_or_none, of_type, of_name}
 use Rattle.compiled_tables.proofs.Files.{stop_count}
 use Rattle.compiled_tables.proofs.ShapeTypes.{then_known, known_same, shape_type, shape_more}

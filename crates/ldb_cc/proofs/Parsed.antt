@@ -9,7 +9,7 @@ use Rattle.c_symbol.specs.Terminals.{terminals}
 use Rattle.c_trees.specs.declared.unit.External.{External}
 use Rattle.c_trees.specs.declared.unit.Unit.{Unit as UnitTree}
 use Rattle.c_syntax.specs.Grammar.{IsUnit}
-use Rattle.c_file.specs.Programs.{externals_of}
+use Rattle.c_linkage.specs.FileTags.{externals_of}
 use Rattle.c_file.specs.Made.{Each}
 use Rattle.ldb_cc.specs.declared.fault.BuildFault.{BuildFault}
 use Rattle.ldb_cc.specs.declared.fault.BuildFault.TheVariants as cause

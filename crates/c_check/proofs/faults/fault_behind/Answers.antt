@@ -1,11 +1,11 @@
 use Rattle.std.proofs.Common.{true, false, [], map, sym, ap, subst, ◌∙◌, Option, option_map}
 use Rattle.std.specs.List.{find}
 use Rattle.c_mentions.specs.Tags.{now}
-use Rattle.c_file.specs.Names.{defining, twice, is_defined}
-use Rattle.c_check.specs.Sets.{defined_in}
+use Rattle.c_linkage.specs.Names.{defining, twice, is_defined}
+use Rattle.c_rows.specs.Sets.{defined_in}
 use Rattle.c_check.specs.Faulty.{IsTold}
 use Rattle.c_file.specs.Programs.{Fault}
-use Rattle.c_check.specs.Behind.{is_row_past}
+use Rattle.c_rows.specs.Behind.{is_row_past}
 use Rattle.c_check.proofs.Behind.{Knows, past_is_first, twice_is_first, missing_is_first, main_is_last}
 use Rattle.c_check.proofs.faults.fault_behind.Goals as goal
 

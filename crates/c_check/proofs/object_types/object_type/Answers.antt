@@ -1,6 +1,6 @@
-use Rattle.c_file.specs.Names.{defining}
+use Rattle.c_linkage.specs.Names.{defining}
 use Rattle.c_scope.specs.Here.{meaning_of}
-use Rattle.c_file.specs.Files.{type_or}
+use Rattle.c_linkage.specs.Types.{type_or}
 use Rattle.c_check.proofs.ToldRows.{type_copied}
 use Rattle.c_check.proofs.object_types.object_type.Goals as goal
 

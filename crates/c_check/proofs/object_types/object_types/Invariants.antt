@@ -1,6 +1,6 @@
 use Rattle.std.proofs.Common.{◌≡◌, ◌++◌, map, drop, vec_len}
 use Rattle.c_typing.specs.Plain.{plain}
-use Rattle.c_file.specs.Names.{defining}
+use Rattle.c_linkage.specs.Names.{defining}
 use Rattle.c_file.specs.Files.{State}
 use Rattle.c_file.specs.Made.{object_type}
 use Rattle.c_check.proofs.object_types.object_types.Given as goal

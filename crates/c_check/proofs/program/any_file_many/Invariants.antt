@@ -1,5 +1,6 @@
 use Rattle.std.proofs.Common.{◌≡◌, map, drop}
-use Rattle.c_file.specs.Programs.{any, many, externals_of}
+use Rattle.c_file.specs.Programs.{any, many}
+use Rattle.c_linkage.specs.FileTags.{externals_of}
 use Rattle.c_check.proofs.program.any_file_many.Given as goal
 
 abbrev pub invariant-loop-unit : goal.invariant-loop-unit

@@ -1,7 +1,7 @@
 use Rattle.std.proofs.Common.{◌∙◌, sym, refl, map, length, subst, Err}
 use Rattle.c_check.specs.declared.faults.CheckFault.{CheckFault}
 use Rattle.c_check.specs.Faulty.{Checks}
-use Rattle.c_file.specs.Programs.{externals_of}
+use Rattle.c_linkage.specs.FileTags.{externals_of}
 use Rattle.c_check.proofs.Checked.{arguments_told, files_told, stands_for, all_told}
 use Rattle.c_check.proofs.program.check_program.Goals as goal
 

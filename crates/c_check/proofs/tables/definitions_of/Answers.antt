@@ -1,5 +1,5 @@
 use Rattle.std.proofs.Common.{◌∙◌, ap, map, sym}
-use Rattle.c_file.specs.Names.{defining}
+use Rattle.c_linkage.specs.Names.{defining}
 use Rattle.c_file.specs.Made.{object_type}
 use Rattle.c_check.proofs.FilledTables.{from_state}
 use Rattle.c_check.proofs.tables.definitions_of.Goals as goal

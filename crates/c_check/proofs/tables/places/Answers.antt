@@ -1,6 +1,6 @@
 use Rattle.std.proofs.Common.{map}
-use Rattle.c_file.specs.Names.{defining}
-use Rattle.c_file.specs.FileNames.{file_name}
+use Rattle.c_linkage.specs.Names.{defining}
+use Rattle.c_linkage.specs.FileNames.{file_name}
 use Rattle.c_check.proofs.Mapped.{places_made}
 use Rattle.c_check.proofs.tables.places.Goals as goal
 

@@ -1,6 +1,6 @@
 use Rattle.std.proofs.Common.{◌∙◌, ap, map}
-use Rattle.c_file.specs.Standing.{started}
-use Rattle.c_check.specs.Symbols.{symbols_by}
+use Rattle.c_linkage.specs.Wanted.{started}
+use Rattle.c_rows.specs.Symbols.{symbols_by}
 use Rattle.c_check.proofs.RowsMade.{objects_made, symbols_made}
 use Rattle.c_check.proofs.tables.tables_of.Goals as goal
 

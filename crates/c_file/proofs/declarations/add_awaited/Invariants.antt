@@ -1,6 +1,6 @@
 use Rattle.std.proofs.Common.{◌≡◌, ◌++◌, drop, map}
 use Rattle.c_file.specs.Files as spec
-use Rattle.c_file.specs.Standing.{awaited}
+use Rattle.c_linkage.specs.Wanted.{awaited}
 use Rattle.c_initial.specs.Starts.{late_place}
 use Rattle.c_file.proofs.declarations.add_awaited.Given as goal
 

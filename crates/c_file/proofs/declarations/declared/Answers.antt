@@ -4,7 +4,8 @@ use Rattle.c_typing.specs.Plain.{plain}
 use Rattle.c_judge.specs.Answers.{◌then◌}
 use Rattle.c_judge.specs.Judges.{IsFault}
 use Rattle.c_scope.specs.Declarators.{shape}
-use Rattle.c_file.specs.Files.{standing, what}
+use Rattle.c_file.specs.Files.{what}
+use Rattle.c_linkage.specs.Types.{standing}
 use Rattle.c_scope.specs.Here.{environment_of}
 use Rattle.c_scope.specs.Shapes.{shape_of}
 use Rattle.c_file.proofs.Decided.{then_decided, shape_decided, standing_decided}

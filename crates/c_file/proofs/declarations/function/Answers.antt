@@ -4,7 +4,7 @@ use Rattle.c_typing.specs.Plain.{plain}
 use Rattle.c_judge.specs.Answers.{Known}
 use Rattle.c_scope.specs.Declarators as shape
 use Rattle.c_scope.specs.Declarators.{denoted}
-use Rattle.c_file.specs.Files.{standing}
+use Rattle.c_linkage.specs.Types.{standing}
 use Rattle.c_scope.specs.Here.{environment_of}
 use Rattle.c_scope.specs.Shapes.{parameter_of}
 use Rattle.c_file.proofs.Decided.{standing_none}

@@ -4,7 +4,7 @@ use Rattle.c_typing.specs.Plain.{plain}
 use Rattle.c_typing.specs.Expressions as typing
 use Rattle.c_scope.specs.Declarators.{parameter_type}
 use Rattle.c_file.specs.Files.{row_of, with_name, with_strings}
-use Rattle.c_file.specs.Names.{name_found}
+use Rattle.c_linkage.specs.Names.{name_found}
 use Rattle.c_file.specs.Progress.{Adds}
 use Rattle.c_scope.specs.Shapes.{parameter_of}
 use Rattle.c_file.proofs.Named.{function_as}

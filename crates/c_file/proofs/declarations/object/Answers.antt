@@ -5,7 +5,7 @@ use Rattle.c_typing.specs.Expressions as typing
 use Rattle.c_judge.specs.Answers.{Known}
 use Rattle.c_judge.specs.Judges.{IsFault}
 use Rattle.c_scope.specs.Declarators as shape
-use Rattle.c_file.specs.Files.{standing, object_standing, object_type}
+use Rattle.c_linkage.specs.Types.{standing, object_standing, object_type}
 use Rattle.c_scope.specs.Here.{environment_of}
 use Rattle.c_file.proofs.Decided.{object_decided}
 use Rattle.c_file.proofs.Named.{same_answer, refused_as}

@@ -3,7 +3,7 @@ use Rattle.c_trees.specs.Declarators.{begins}
 use Rattle.c_typing.specs.Plain.{plain}
 use Rattle.c_typing.specs.Expressions as typing
 use Rattle.c_file.specs.Files.{row_of, with_name, with_strings}
-use Rattle.c_file.specs.Names.{name_found}
+use Rattle.c_linkage.specs.Names.{name_found}
 use Rattle.c_file.specs.Progress.{Gains, Fails}
 use Rattle.c_file.proofs.Named.{object_both, object_stops}
 use Rattle.c_file.proofs.declarations.object_named.Goals as goal

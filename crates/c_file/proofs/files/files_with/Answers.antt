@@ -3,7 +3,7 @@ use Rattle.std.proofs.Math.Seq.{drop-cons}
 use Rattle.std.proofs.lemmas.Grind.{common_steps}
 use Rattle.std.proofs.lemmas.List.{length-map}
 use Rattle.c_file.specs.Files.{State}
-use Rattle.c_file.specs.Programs.{externals_of}
+use Rattle.c_linkage.specs.FileTags.{externals_of}
 use Rattle.c_mentions.specs.Tags.{now}
 use Rattle.c_file.proofs.HeldExternals.{Kept, kept_first, kept_on, kept_fails, next_unit, all_looked, all_refused}
 use Rattle.c_file.proofs.files.files_with.Goals as goal

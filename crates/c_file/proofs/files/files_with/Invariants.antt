@@ -1,5 +1,5 @@
 use Rattle.std.proofs.Common.{◌≡◌, drop, map}
-use Rattle.c_file.specs.Programs.{externals_of}
+use Rattle.c_linkage.specs.FileTags.{externals_of}
 use Rattle.c_mentions.specs.Tags.{now}
 use Rattle.c_file.proofs.HeldExternals.{Kept}
 use Rattle.c_file.proofs.files.files_with.Given as goal

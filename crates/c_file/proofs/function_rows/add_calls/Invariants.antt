@@ -1,7 +1,7 @@
 use Rattle.std.proofs.Common.{◌≡◌, ◌++◌, drop, map}
 use Rattle.c_file.specs.Files.{called_all}
 use Rattle.c_scope.specs.Here.{environment_of}
-use Rattle.c_file.specs.Standing.{called}
+use Rattle.c_linkage.specs.Wanted.{called}
 use Rattle.c_mentions.specs.Tags.{now}
 use Rattle.c_file.proofs.function_rows.add_calls.Given as goal
 

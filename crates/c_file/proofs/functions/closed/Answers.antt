@@ -4,9 +4,9 @@ use Rattle.std.proofs.lemmas.List.{length-map}
 use Rattle.c_typing.specs.Programs.{numbers}
 use Rattle.c_file.specs.Files.{called_all}
 use Rattle.c_scope.specs.Here.{environment_of}
-use Rattle.c_file.specs.Names.{defining}
+use Rattle.c_linkage.specs.Names.{defining}
 use Rattle.c_file.specs.Progress.{so_far, points_of}
-use Rattle.c_file.specs.Standing.{called}
+use Rattle.c_linkage.specs.Wanted.{called}
 use Rattle.c_mentions.specs.Tags.{now}
 use Rattle.c_body.specs.Walking.{stop_of}
 use Rattle.c_file.proofs.AddedBodies.{map_both, points_count}

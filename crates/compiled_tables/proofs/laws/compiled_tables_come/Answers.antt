@@ -2,7 +2,7 @@ use Rattle.std.proofs.Common.{◌≡◌, ◌∙◌, sym, subst, ℕ, ◌+◌, �
 use Rattle.c_lex.specs.Grammar.{start}
 use Rattle.c_typing.specs.Programs.{KeepsRules}
 use Rattle.table_ends.specs.Joined.{MakesTable}
-use Rattle.c_file.specs.Programs.{tags_of}
+use Rattle.c_linkage.specs.FileTags.{tags_of}
 use Rattle.ldb_cc.specs.Sources.{IsTree}
 use Rattle.ldb_cc.specs.Table.{placement_of}
 use Rattle.ps_emit.specs.Table.{table_text}

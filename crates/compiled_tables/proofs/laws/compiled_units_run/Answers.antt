@@ -5,7 +5,7 @@ use Rattle.c_lex.specs.Grammar.{start}
 use Rattle.c_tree.specs.declared.rows.Program.{Program}
 use Rattle.c_tree.specs.declared.rows.UnitRow.{UnitRow}
 use Rattle.c_typing.specs.Programs.{KeepsRules}
-use Rattle.c_file.specs.Programs.{tags_of}
+use Rattle.c_linkage.specs.FileTags.{tags_of}
 use Rattle.ldb_cc.specs.Sources.{IsTree}
 use Rattle.ldb_cc.specs.Table.{placement_of}
 use Rattle.slot_formed.specs.Tokens.{program_tokens}

@@ -1,6 +1,6 @@
 use Rattle.std.proofs.Common.{◌∙◌, List, map, length, ap, sym, subst}
 use Rattle.c_trees.specs.declared.unit.Unit.{Unit as UnitTree}
-use Rattle.c_file.specs.Programs.{externals_of}
+use Rattle.c_linkage.specs.FileTags.{externals_of}
 use Rattle.ldb_cc.specs.Sources.{IsTree, AreFiles}
 use Rattle.ldb_cc.specs.Scanning.{items_of}
 use Rattle.ldb_cc.proofs.Parsed.{length_beside}

@@ -1,0 +1,7 @@
+mod Once
+mod Agreeing
+mod Again
+pub mod Telling
+mod Pairs
+mod NumberedRows
+mod Limited

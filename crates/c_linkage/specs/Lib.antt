@@ -1,0 +1,12 @@
+pub mod Names
+pub mod Telling
+pub mod FileNumbers
+pub mod Numbered
+pub mod Known
+pub mod FileNames
+pub mod Coded
+pub mod Types
+pub mod Wanted
+pub mod FileTags
+pub mod Bounds
+pub mod Defined

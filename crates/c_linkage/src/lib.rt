@@ -1,0 +1,19 @@
+//! What names with linkage denote over the files of a program: their declarations, their definitions, and what is kept of a program while its files are
+//! looked through.
+#![tactic(auto)]
+
+mod definitions;
+mod file_names;
+mod file_numbers;
+mod names;
+mod standing;
+mod state;
+mod tag_numbers;
+
+pub use definitions::{Definition, Manner, twice};
+pub use file_names::{FileName, FileNames};
+pub use file_numbers::FileNumbers;
+pub use names::is_built_in;
+pub use standing::{is_static, object_standing, object_type, parameter_types};
+pub use state::{Awaited, Called, FileFault, Started, State};
+pub use tag_numbers::{TagList, tags_of};

@@ -1,0 +1,7 @@
+mod Sets
+mod NamesAdded
+mod Finding
+mod GreatestBound
+mod Filed
+mod Holding
+mod Listed

@@ -1,0 +1,9 @@
+pub mod Sets
+pub mod Behind
+pub mod Fresh
+pub mod Linked
+pub mod Objects
+pub mod Placed
+pub mod Rooms
+pub mod Symbols
+pub mod Units
