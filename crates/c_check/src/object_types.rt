@@ -8,8 +8,8 @@ ghost use Rattle.c_scope.specs.Here.{meaning_of};
 ghost use Rattle.c_file.specs.Made.{object_type};
 ghost use Rattle.c_check.specs.TypesTold.{IsToldOf};
 
-use c_linkage::{Definition, FileName, FileNames};
 use c_judge::copied;
+use c_linkage::{Definition, FileName, FileNames};
 use c_scope::Meaning;
 use c_tree::CType;
 use std::alloc::{AllocError, Global};

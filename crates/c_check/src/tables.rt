@@ -18,7 +18,8 @@ use crate::faults::CheckFault;
 use crate::object_types::object_types;
 use c_linkage::{Definition, FileName, Started, State};
 use c_rows::{
-    Places, Starts, bodies, numbered, object_rows, objects, room, start_numbers, static_names, symbol_rows, unit_rows,
+    Places, Starts, bodies, numbered, object_rows, objects, room, start_numbers, static_names,
+    symbol_rows, unit_rows,
 };
 use c_tree::{CType, ObjectRow, StructDef, SymbolRow, UnitRow};
 use ldb_words::Text;

@@ -24,8 +24,8 @@ use crate::function_rows::{add_declarator_calls, add_initial_calls};
 use c_initial::{Initialized, LatePlace, initial};
 use c_judge::{Fault, copied};
 use c_linkage::{
-    Awaited, Called, Definition, FileName, Manner, Started, State, is_static, object_standing, object_type,
-    parameter_types,
+    Awaited, Called, Definition, FileName, Manner, Started, State, is_static, object_standing,
+    object_type, parameter_types,
 };
 use c_mentions::strings_in_declarator;
 use c_scope::{Meaning, Parameter, Shape, declarator_place, name_in, shape};

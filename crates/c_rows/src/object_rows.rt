@@ -14,9 +14,9 @@ ghost use Rattle.c_rows.specs.Objects.{start_number, started_at, starts_by, obje
 
 use crate::places::Places;
 use c_defs::StructsView;
-use c_linkage::{Definition, FileNumbers, Started};
 use c_initial::Begin;
 use c_judge::copied;
+use c_linkage::{Definition, FileNumbers, Started};
 use c_tree::{CType, ObjectRow, Start, StructDef};
 use ldb_words::{Many, Text};
 use std::alloc::{AllocError, Global};
