@@ -68,8 +68,8 @@ pub fn end_command(inquiry: &mut Inquiry, mark: Mark)
     inquiry.core.store.cut_back(mark);
 }
 
-/// Puts a dictionary on the base ones, alone.
-fn stand_on(inquiry: &mut Inquiry, own: DictId) -> Result<(), AllocError>
+/// Puts a dictionary on the base ones, alone: the command's own one, before it runs PostScript again. There are no operands.
+pub fn stand_on(inquiry: &mut Inquiry, own: DictId) -> Result<(), AllocError>
     ensures store { inquiry.new.core.store ≡ inquiry.old.core.store }
     ensures steps { inquiry.new.steps ≡ inquiry.old.steps }
     ensures stands { OnOk result (inquiry.new.core ≡ core_in inquiry.old.core.store own) }
