@@ -15,7 +15,7 @@ use Rattle.c_judge.specs.declared.symbol.Symbol.{Symbol}
 use Rattle.c_scope.specs.declared.link.Link.{Link}
 use Rattle.c_linkage.specs.declared.definitions.Definition.{Definition}
 use Rattle.c_rows.specs.declared.places.Places.{Places}
-use Rattle.c_rows.specs.declared.object_rows.Starts.{Starts as Kept}
+use Rattle.c_rows.specs.declared.starts.Starts.{Starts as Kept}
 use Rattle.c_scope.specs.Environment.{Row}
 use Rattle.c_scope.specs.Table.{row, rows}
 use Rattle.c_linkage.specs.FileNumbers.{number_at}

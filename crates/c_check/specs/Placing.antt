@@ -5,7 +5,7 @@ use Rattle.c_linkage.specs.Wanted.{started}
 use Rattle.c_file.specs.Files.{State}
 use Rattle.c_file.specs.Made.{object_number, function_number}
 use Rattle.c_rows.specs.declared.places.Places.{Places}
-use Rattle.c_rows.specs.declared.object_rows.Starts.{Starts as Kept}
+use Rattle.c_rows.specs.declared.starts.Starts.{Starts as Kept}
 use Rattle.c_rows.specs.Objects.{start_number}
 use Rattle.c_rows.specs.Placed.{object_by, function_by}
 

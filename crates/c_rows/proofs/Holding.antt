@@ -11,7 +11,7 @@ use Rattle.c_typing.specs.Plain.{Plain, plain}
 use Rattle.c_defs.specs.Depths.{deepest}
 use Rattle.c_linkage.specs.declared.definitions.Definition.{Definition}
 use Rattle.c_rows.specs.declared.places.Places.{Places}
-use Rattle.c_rows.specs.declared.object_rows.Starts.{Starts as Kept}
+use Rattle.c_rows.specs.declared.starts.Starts.{Starts as Kept}
 use Rattle.c_linkage.specs.Names.{defining}
 use Rattle.c_initial.specs.Begins.{Begin, Bits, zeros}
 use Rattle.c_initial.specs.Starts.{begins_of_row, begins_in}

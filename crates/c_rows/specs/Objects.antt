@@ -4,7 +4,7 @@ use Rattle.c_tree.specs.declared.rows.ObjectRow.{ObjectRow}
 use Rattle.c_tree.specs.declared.rows.Start.{Start}
 use Rattle.c_typing.specs.Plain.{Plain, plain}
 use Rattle.c_rows.specs.declared.places.Places.{Places}
-use Rattle.c_rows.specs.declared.object_rows.Starts.{Starts as Kept}
+use Rattle.c_rows.specs.declared.starts.Starts.{Starts as Kept}
 use Rattle.c_linkage.specs.FileNumbers.{number_at}
 use Rattle.c_linkage.specs.Names.{Defining}
 use Rattle.c_initial.specs.Begins.{Begin, zeros}

@@ -3,20 +3,20 @@
 
 mod defined;
 mod linked;
-mod missing;
-mod object_rows;
-mod objects;
+mod numbering;
 mod places;
-mod room;
+mod starts;
+mod static_room;
 mod symbols;
+mod undefined;
 mod units;
 
 pub use defined::{DefinedNames, defined_names};
 pub use linked::LinkedNumbers;
-pub use missing::{first_past, missing};
-pub use object_rows::{Starts, object_rows, start_numbers};
-pub use objects::{bodies, numbered, objects};
+pub use numbering::{bodies, numbered, objects};
 pub use places::{Places, static_names};
-pub use room::room;
+pub use starts::{Starts, object_rows, start_numbers};
+pub use static_room::room;
 pub use symbols::symbol_rows;
+pub use undefined::{first_past, missing};
 pub use units::unit_rows;
