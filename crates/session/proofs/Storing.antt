@@ -53,7 +53,7 @@ use Rattle.session.proofs.AskingText.{text_keeps, text_keeps_so_far, stands_stor
 use Rattle.session.proofs.AskingBoth.{asked_none}
 use Rattle.session.proofs.Beside.{second_beside, first_beside}
 use Rattle.session.proofs.Readying.{second_stays}
-use Rattle.session.proofs.Wanting.{second_all, same_numbers}
+use Rattle.session.proofs.Wanting.{settles_for, second_all, same_numbers}
 
 -- ---- a side
 
@@ -81,7 +81,7 @@ module _ (b : Behaviour) (c : Conduct) (o o' : Option World) (side : SideRecord)
       };
       alike = record {
         words = none_mapped (row_in side.inquiry.core.store) side.row.step_words.items (sym ready.planted.words ∙ none);
-        table = record { same = refl; command = table.nothing ready.stands.table.command };
+        table = record { same = refl; command = table.settles.nothing ready.stands.table.command };
         frame = ready.stands.frame;
         breaks = ready.stands.alike.breaks ∙ sym names.0.breaks;
         stands_at = refl;
@@ -89,7 +89,11 @@ module _ (b : Behaviour) (c : Conduct) (o o' : Option World) (side : SideRecord)
         host = refl;
         side = refl;
       };
-      numbers = record { same = refl; stores = subst (λ (m : MachineState). StoresNumbers (machine_order m) m.memory regions) (sym ready.planted.machine) stored };
+      numbers = record {
+        same = refl;
+        stores = subst (λ (m : MachineState). StoresNumbers (machine_order m) m.memory regions) (sym ready.planted.machine) stored;
+        settles = settles_for side.inquiry.core.store i.core.store a.table (record i.core.store { part = CommandPart }) ready.stands.table.same refl table.settles;
+      };
     }
 
     pub one_stores : (side' : SideRecord) → side' ≡ after → StoresOne b c o' side side' h beside a

@@ -39,7 +39,7 @@ use Rattle.session.proofs.Beside.{second_beside, first_beside}
 use Rattle.session.proofs.Counting.{fault_on}
 use Rattle.session.proofs.Looked.{undone_as}
 use Rattle.session.proofs.Readying.{TakesAway, second_stays}
-use Rattle.session.proofs.Wanting.{Change, leaves_if_any, unprepared}
+use Rattle.session.proofs.Wanting.{Change, TablesStay, leaves_if_any, unprepared}
 
 -- ---- answers
 
@@ -164,9 +164,10 @@ module _ (b : Behaviour) (c : Conduct) (o o1 : Option World) (f f1 : ℕ) (first
 
 module _ (b : Behaviour) (c : Conduct) (st : SessionState) (still : IsStill st.state) where
   pub unready : (how : Resume) (o o1 o2 : Option World) (first first' first'' : SideRecord) (second second' second'' : Option SideRecord) (hs : Hosts) → AreThere b c o first second hs → SidesStand (sides_of first second hs) st → (p : AllPrepared b c o1 first first' second second' hs st how)
+      → TablesStay how first first' second second'
       → (r : Result (Unit {0}) AskFault) → r ≡ unit_ok → OnOk r (AllCleared b c o2 first' first'' second' second'' p.hosts) → StandAgain WithTable b c o2 first'' second'' st
-  unready how o o1 o2 first first' first'' second second' second'' hs there sides p r is cleared =
-      unprepared b c st still how o o1 o2 first first' first'' second second' second'' hs there sides p (subst (λ (z : Result (Unit {0}) AskFault). OnOk z (AllCleared b c o2 first' first'' second' second'' p.hosts)) is cleared)
+  unready how o o1 o2 first first' first'' second second' second'' hs there sides p stay r is cleared =
+      unprepared b c st still how o o1 o2 first first' first'' second second' second'' hs there sides p stay (subst (λ (z : Result (Unit {0}) AskFault). OnOk z (AllCleared b c o2 first' first'' second' second'' p.hosts)) is cleared)
 
 -- ---- whole commands
 

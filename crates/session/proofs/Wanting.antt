@@ -19,7 +19,7 @@ use Rattle.ps_store.specs.StoreState.{StoreState}
 use Rattle.ps_store.specs.Store.{closed_part}
 use Rattle.ps_store.specs.Cut.{mark_of, cut}
 use Rattle.ps_store.specs.Settled.{Settled}
-use Rattle.ps_store.proofs.Settling.{settled_same}
+use Rattle.ps_store.proofs.Settling.{settled_same, settled_on}
 use Rattle.table_points.specs.declared.row.Point.{Point}
 use Rattle.table_points.specs.Rows.{row_in}
 use Rattle.table_points.specs.Named.{IsNamed}
@@ -35,7 +35,7 @@ use Rattle.c_session.specs.declared.command.Command.{Command}
 use Rattle.c_session.specs.declared.command.Command.TheVariants as command
 use Rattle.claims.specs.Side.{SideState, SessionState, State, Fresh, Stopped, Running, Ended}
 use Rattle.side_meaning.specs.Standing.{Debugged, StandsFor, no_objects}
-use Rattle.side_meaning.specs.Stepping.{IsStill, IsSettled, IsReady}
+use Rattle.side_meaning.specs.Stepping.{IsStill, IsSettled, IsStepped, FindsWords, IsReady}
 use Rattle.side_meaning.specs.Asking.{HasNames}
 use Rattle.side_meaning.specs.Storing.{StoresNumbers, none_stored}
 use Rattle.side_meaning.specs.Sessions as sessions
@@ -50,8 +50,9 @@ use Rattle.session.specs.declared.answers.End.{End}
 use Rattle.session.specs.declared.modes.Mode.{Mode}
 use Rattle.session.specs.declared.sides.SideRecord.{SideRecord}
 use Rattle.session.specs.Answered.{state_of}
+use Rattle.session.specs.Resuming as behind
 use Rattle.session.specs.Meant.{debugged, IsThere, Hosts, second_of, sides_of, AreThere, AreReadyFor, AllPrepared, AllCleared, Represents}
-use Rattle.session.specs.Wanting.{TableStays, OnlyRan, StaysOne, WithTable, WithNumbers, WithSides, IsText, Leaves, LeavesIfAny, StandAgain, RepresentsAgain}
+use Rattle.session.specs.Wanting.{OnlySettles, in_command, TableStays, KeepsTable, OnlyRan, StaysOne, WithTable, WithNumbers, WithSides, IsText, Leaves, LeavesIfAny, StandAgain, RepresentsAgain}
 use Rattle.session.proofs.Asking.{none_mapped}
 use Rattle.session.proofs.Pointing.{cut_nothing}
 use Rattle.session.proofs.Beside.{stands_beside, second_beside, first_beside}
@@ -59,11 +60,15 @@ use Rattle.session.proofs.Readying.{second_stays, PutsOn, TakesAway}
 
 -- ---- a table
 
-pub same_table : (s : StoreState) → TableStays s s
-same_table s = record { names = λ d names. (record { breaks = refl; stands_at = refl; kept = refl }, names); nothing = λ e. e }
+pub same_settles : (s : StoreState) → OnlySettles s s
+same_settles s = record { closed = settled_same (closed_part s); nothing = λ e. e }
 
-abbrev in_command : StoreState → StoreState
-in_command s = record s { part = CommandPart }
+pub same_table : (s : StoreState) → TableStays s s
+same_table s = record { names = λ d names. (record { breaks = refl; stands_at = refl; kept = refl }, names); settles = same_settles (in_command s) }
+
+-- the machine session's tables of two that only settle
+pub settles_for : (s s' t t' : StoreState) → t ≡ in_command s → t' ≡ in_command s' → OnlySettles (in_command s) (in_command s') → OnlySettles t t'
+settles_for s s' t t' e e' h = subst (λ (z : StoreState). OnlySettles z t') (sym e) (subst (λ (z : StoreState). OnlySettles (in_command s) z) (sym e') h)
 
 -- from the begin of a command to its end
 module _ (s begun k t : StoreState) (m : Mark) (store : begun ≡ in_command s) (mark : m ≡ mark_of s.command) (closed : Settles (closed_part begun) (closed_part k)) (ends : t ≡ record k { part = CommandPart; command = cut k.command m }) where
@@ -85,7 +90,10 @@ module _ (s begun k t : StoreState) (m : Mark) (store : begun ≡ in_command s) 
   pub table_stays : TableStays s t
   table_stays = record {
     names = λ d names. subst (λ (z : StoreState). IsStill (record d { table = s }) (record d { table = z }) × HasNames (record d { table = z })) (sym ends) (names_last d names);
-    nothing = λ e. ap (λ (z : StoreState). z.command) ends ∙ (ap (λ (n : Mark). cut k.command n) (mark ∙ ap (λ (h : Held). mark_of h) e) ∙ cut_nothing k.command);
+    settles = record {
+      closed = subst (λ (z : StoreState). Settled (closed_part (in_command s)) (closed_part (in_command z))) (sym ends) (settled_on (closed_part (in_command s)) (closed_part k) (closed_part last) settled settled_last);
+      nothing = λ e. ap (λ (z : StoreState). z.command) ends ∙ (ap (λ (n : Mark). cut k.command n) (mark ∙ ap (λ (h : Held). mark_of h) e) ∙ cut_nothing k.command);
+    };
   }
 
 -- points that aren't told
@@ -101,7 +109,7 @@ points_unbroken told (Err NoMemory) own err = tt
 -- ---- a side
 
 pub ran_same : (d : Debugged) (a : SideState) → StandsFor d a → OnlyRan d a
-ran_same d a for = record { table = a.table; stands = for }
+ran_same d a for = record { table = a.table; settles = same_settles a.table; stands = for }
 
 -- it has another table, and the breakpoints of before
 module _ (b : Behaviour) (c : Conduct) (o o' : Option World) (side : SideRecord) (h : Host) (beside : Option Host) (x : IsThere b c o side h beside) (i : Inquiry) (v : Vec Point) (n : ℕ) (breaks : v.items ≡ side.row.breaks.items)
@@ -133,7 +141,8 @@ module _ (b : Behaviour) (c : Conduct) (o o' : Option World) (side : SideRecord)
     ran_so : OnlyRan (debugged after h) a
     ran_so = record {
       table = in_command i.core.store;
-      stands = stands_with (debugged side h) (debugged after h) a (in_command i.core.store) for none free (record { same = refl; command = table.nothing for.table.command }) frame free
+      settles = settles_for side.inquiry.core.store i.core.store a.table (in_command i.core.store) for.table.same refl table.settles;
+      stands = stands_with (debugged side h) (debugged after h) a (in_command i.core.store) for none free (record { same = refl; command = table.settles.nothing for.table.command }) frame free
           (record { breaks = ap (λ ps. map (row_in i.core.store) ps) breaks ∙ names.0.breaks; stands_at = refl; kept = names.0.kept }) refl;
     }
 
@@ -147,15 +156,31 @@ side_stays b c o o' side side' h beside x a ready none same table there =
     one_stays b c o o' side h beside x side'.inquiry side.row.breaks side.frame refl table (subst (λ (w : Side). Stands b c w o' h beside) (ap (λ (z : SideRecord). z.which) same) there.stands) a ready.stands none
     (none_mapped (row_in side.inquiry.core.store) side.row.step_words.items (sym ready.planted.words ∙ none)) refl side' same
 
--- the words that were put, or stood still, were taken away
-pub cleared_ran : (how : Resume) (d d' d'' : Debugged) (a : SideState) → IsMemory d.host.machine.memory → StandsFor d a → a.step_words ≡ [] → Prepared how d d' a → IsSettled d' d'' → OnlyRan d'' a
-cleared_ran ByContinue d d' d'' a memory for none p s =
+-- the words of a step were put, or stood still, and were taken away
+pub undone_ran : (d d' d'' : Debugged) (a : SideState) (u : TableUse) → IsMemory d.host.machine.memory → StandsFor d a → a.step_words ≡ [] → IsStepped d d' a.table u ⊎ FindsWords d d' → OnlySettles (in_command d.table) (in_command d'.table) → IsSettled d' d'' → OnlyRan d'' a
+undone_ran d d' d'' a u memory for none p settles s =
+    let w : Undone d'' a = step_undone (λ (target : _) (ps kept : _) (z d : _) m k. all_undone target z d ps kept m k) d d' a u memory for none d'' p s in
+    record {
+      table = w.side.table;
+      settles = settles_for d.table d'.table a.table w.side.table for.table.same (w.stands.table.same ∙ ap (λ (z : StoreState). in_command z) s.table) settles;
+      stands = w.stands;
+    }
+
+-- only before a step units of the table are run
+abbrev pub TableSettles : Resume → (s s' : StoreState) → Type 0
+TableSettles ByContinue s s' = Unit {0}
+TableSettles ByStep s s' = OnlySettles (in_command s) (in_command s')
+
+abbrev pub TablesStay : Resume → (first first' : SideRecord) (second second' : Option SideRecord) → Type 0
+TablesStay ByContinue first first' second second' = Unit {0}
+TablesStay ByStep first first' second second' = KeepsTable first first' × behind.OnSecond KeepsTable second second'
+
+pub cleared_ran : (how : Resume) (d d' d'' : Debugged) (a : SideState) → IsMemory d.host.machine.memory → StandsFor d a → a.step_words ≡ [] → Prepared how d d' a → TableSettles how d.table d'.table → IsSettled d' d'' → OnlyRan d'' a
+cleared_ran ByContinue d d' d'' a memory for none p settles s =
     let y = settled_stands d d' a for none p in
     let z = settled_stands d' d'' a y.stands none s in
     ran_same d'' a z.stands
-cleared_ran ByStep d d' d'' a memory for none p s =
-    let w : Undone d'' a = step_undone (λ (target : _) (ps kept : _) (z d : _) m k. all_undone target z d ps kept m k) d d' a p.0 memory for none d'' p.1 s in
-    record { table = w.side.table; stands = w.stands }
+cleared_ran ByStep d d' d'' a memory for none p settles s = undone_ran d d' d'' a p.0 memory for none p.1 settles s
 
 -- the second side, once the first one was asked
 pub first_there_still : (b : Behaviour) (c : Conduct) (o o' : Option World) (first first' : SideRecord) (second : Option SideRecord) (hs : Hosts) → first'.which ≡ first.which → AreThere b c o first second hs → IsThere b c o' first' hs.first hs.second → AreThere b c o' first' second hs
@@ -199,7 +224,13 @@ represents_as P Q to b c o first second mode limit st s = record { after = s.aft
 
 -- what a command leaves
 pub table_leaves : (c : Command) (a a' : SideState) → WithTable a a' → Leaves c a a'
-table_leaves (command.Ps text) a a' h = record { same = h ∙ ap (λ (m : Regions). record a { machine = record a.machine { memory = m }; table = a'.table }) (ap (λ (z : SideState). z.machine.memory) (sym h)); stores = subst (λ (m : Regions). StoresNumbers (order_of a.machine) a.machine.memory m) (ap (λ (z : SideState). z.machine.memory) (sym h)) none_stored }
+table_leaves (command.Ps text) a a' h =
+    let memory : a.machine.memory ≡ a'.machine.memory = ap (λ (z : SideState). z.machine.memory) (sym h.same) in
+    record {
+      same = h.same ∙ ap (λ (m : Regions). record a { machine = record a.machine { memory = m }; table = a'.table }) memory;
+      stores = subst (λ (m : Regions). StoresNumbers (order_of a.machine) a.machine.memory m) memory none_stored;
+      settles = h.settles;
+    }
 table_leaves c a a' h = h
 
 pub numbers_leave : (c : Command) → IsText c → (a a' : SideState) → WithNumbers a a' → Leaves c a a'
@@ -210,11 +241,14 @@ pub text_is : (c : Command) → IsText c → ((text : List ℕ) → c ≢ comman
 text_is (command.Ps text) h n = n text refl
 text_is c h n = h
 
+pub same_with : (a : SideState) → WithTable a a
+same_with a = record { same = refl; settles = same_settles a.table }
+
 pub same_leaves : (c : Command) (a : SideState) → Leaves c a a
-same_leaves c a = table_leaves c a a refl
+same_leaves c a = table_leaves c a a (same_with a)
 
 pub same_numbers : (a : SideState) → WithNumbers a a
-same_numbers a = record { same = refl; stores = none_stored }
+same_numbers a = record { same = refl; stores = none_stored; settles = same_settles a.table }
 
 -- what its answer leaves
 pub leaves_if_any : (c : Command) (r : Result Answer End) (a a' : SideState) → Leaves c a a' → LeavesIfAny (Some c) r a a'
@@ -235,7 +269,7 @@ record SecondAgain (state : State) (d : Option Debugged) (a : Option SideState) 
 
 second_again : (state : State) (d : Option Debugged) (a : Option SideState) → sessions.IsStill state → OnSecond RanNone d a → SecondAgain state d a
 second_again state None None still r = record { after = None; stands = tt; tables = tt }
-second_again state (Some d) (Some a) still r = record { after = Some (record a { table = r.0.table }); stands = in_state state d (record a { table = r.0.table }) still r.0.stands r.1; tables = refl }
+second_again state (Some d) (Some a) still r = record { after = Some (record a { table = r.0.table }); stands = in_state state d (record a { table = r.0.table }) still r.0.stands r.1; tables = record { same = refl; settles = r.0.settles } }
 second_again state None (Some a) still r = absurd r
 second_again state (Some d) None still r = absurd r
 
@@ -255,7 +289,7 @@ module _ (b : Behaviour) (c : Conduct) (st : SessionState) (still : sessions.IsS
         hosts = hs;
         there = there;
         sides = record { first = in_state st.state (debugged first hs.first) (record st.first { table = one.table }) still one.stands none; second = more.stands };
-        changed = record { same = refl; first = refl; second = more.tables };
+        changed = record { same = refl; first = record { same = refl; settles = one.settles }; second = more.tables };
       }
 
   -- the first side alone was asked
@@ -323,20 +357,42 @@ module _ (b : Behaviour) (c : Conduct) (st : SessionState) (still : sessions.IsS
   prepared_so how (Running began) d d' a s p = absurd s
   prepared_so how Ended d d' a s p = absurd s
 
-  first_cleared : (how : Resume) (d d' d'' : Debugged) → IsMemory d.host.machine.memory → StandsIn st.state d st.first → PreparedIn st.state how d d' st.first → IsSettled d' d'' → OnlyRan d'' st.first
-  first_cleared how d d' d'' memory for p s = cleared_ran how d d' d'' st.first memory for.stands (no_words st.state d st.first still for) (prepared_so how st.state d d' st.first still p) s
+  first_cleared : (how : Resume) (d d' d'' : Debugged) → IsMemory d.host.machine.memory → StandsIn st.state d st.first → PreparedIn st.state how d d' st.first → TableSettles how d.table d'.table → IsSettled d' d'' → OnlyRan d'' st.first
+  first_cleared how d d' d'' memory for p settles s = cleared_ran how d d' d'' st.first memory for.stands (no_words st.state d st.first still for) (prepared_so how st.state d d' st.first still p) settles s
 
-  second_cleared : (how : Resume) (d d' d'' : Option Debugged) (a : Option SideState) → sessions.IfSecond (λ (z : Debugged). IsMemory z.host.machine.memory) d → OnSecond (StandsIn st.state) d a → SecondPrepared st.state how d d' a → OnSecond IsSettled d' d'' → OnSecond RanNone d'' a
-  second_cleared how (Some d) (Some d') (Some d'') (Some a) memory for p s =
+  -- of a second side that is there before and after
+  abbrev BothSettle : Resume → (d d' : Option Debugged) → Type 0
+  BothSettle ByContinue d d' = Unit {0}
+  BothSettle ByStep (Some d) (Some d') = OnlySettles (in_command d.table) (in_command d'.table)
+  BothSettle ByStep d d' = Unit {0}
+
+  both_settle : (how : Resume) (d d' : Debugged) → BothSettle how (Some d) (Some d') → TableSettles how d.table d'.table
+  both_settle ByContinue d d' h = tt
+  both_settle ByStep d d' h = h
+
+  second_settles : (second second' : Option SideRecord) (x y : Option Host) → behind.OnSecond KeepsTable second second' → BothSettle ByStep (second_of second x) (second_of second' y)
+  second_settles None second' x y h = tt
+  second_settles (Some a) second' None y h = tt
+  second_settles (Some a) None (Some g) y h = absurd h
+  second_settles (Some a) (Some a') (Some g) None h = tt
+  second_settles (Some a) (Some a') (Some g) (Some g') h = h.settles
+
+  tables_settle : (how : Resume) (first first' : SideRecord) (second second' : Option SideRecord) (x y : Option Host) → TablesStay how first first' second second'
+      → TableSettles how first.inquiry.core.store first'.inquiry.core.store × BothSettle how (second_of second x) (second_of second' y)
+  tables_settle ByContinue first first' second second' x y h = (tt, tt)
+  tables_settle ByStep first first' second second' x y h = (h.0.settles, second_settles second second' x y h.1)
+
+  second_cleared : (how : Resume) (d d' d'' : Option Debugged) (a : Option SideState) → sessions.IfSecond (λ (z : Debugged). IsMemory z.host.machine.memory) d → OnSecond (StandsIn st.state) d a → SecondPrepared st.state how d d' a → BothSettle how d d' → OnSecond IsSettled d' d'' → OnSecond RanNone d'' a
+  second_cleared how (Some d) (Some d') (Some d'') (Some a) memory for p settles s =
       let none = no_words st.state d a still for in
-      (cleared_ran how d d' d'' a memory for.stands none (prepared_so how st.state d d' a still p) s, none)
-  second_cleared how None None None None memory for p s = tt
-  second_cleared how None None (Some d'') a memory for p s = absurd s
-  second_cleared how None None None (Some a) memory for p s = absurd for
-  second_cleared how None (Some d') d'' a memory for p s = absurd p
-  second_cleared how (Some d) None d'' a memory for p s = absurd p
-  second_cleared how (Some d) (Some d') None a memory for p s = absurd s
-  second_cleared how (Some d) (Some d') (Some d'') None memory for p s = absurd for
+      (cleared_ran how d d' d'' a memory for.stands none (prepared_so how st.state d d' a still p) (both_settle how d d' settles) s, none)
+  second_cleared how None None None None memory for p settles s = tt
+  second_cleared how None None (Some d'') a memory for p settles s = absurd s
+  second_cleared how None None None (Some a) memory for p settles s = absurd for
+  second_cleared how None (Some d') d'' a memory for p settles s = absurd p
+  second_cleared how (Some d) None d'' a memory for p settles s = absurd p
+  second_cleared how (Some d) (Some d') None a memory for p settles s = absurd s
+  second_cleared how (Some d) (Some d') (Some d'') None memory for p settles s = absurd for
 
   second_memory : (o : Option World) (h : Host) (second : Option SideRecord) (x : Option Host) → OnSecond (λ (side : SideRecord) (g : Host). (side.which ≡ Second) × IsThere b c o side g (Some h)) second x → sessions.IfSecond (λ (z : Debugged). IsMemory z.host.machine.memory) (second_of second x)
   second_memory o h None None q = tt
@@ -346,10 +402,10 @@ module _ (b : Behaviour) (c : Conduct) (st : SessionState) (still : sessions.IsS
 
   -- the words of the second side were not put, and those of the first one were taken away
   pub second_unput : (o o1 o2 o3 : Option World) (f f1 f2 f3 : ℕ) (first first' first'' second second' : SideRecord) (hs : Hosts) → first'.which ≡ first.which → first''.which ≡ first'.which → second'.which ≡ second.which → AreThere b c o first (Some second) hs
-      → SidesStand (sides_of first (Some second) hs) st → PutsOn b c o o1 f f1 first first' (Ok tt)
+      → SidesStand (sides_of first (Some second) hs) st → PutsOn b c o o1 f f1 first first' (Ok tt) → TableStays first.inquiry.core.store first'.inquiry.core.store
       → ((h : Host) (beside : Option Host) (a : SideState) → IsThere b c o1 second h beside → StandsFor (debugged second h) a → a.step_words ≡ [] → StaysOne b c o2 second' h beside a)
       → TakesAway b c o2 o3 f2 f3 first' first'' (Ok tt) → StandAgain WithTable b c o3 first'' (Some second') st
-  second_unput o o1 o2 o3 f f1 f2 f3 first first' first'' second second' hs which again second_which there sides puts stays away = by hs.second st.second there sides refl
+  second_unput o o1 o2 o3 f f1 f2 f3 first first' first'' second second' hs which again second_which there sides puts table stays away = by hs.second st.second there sides refl
     where
       by : (x : Option Host) (y : Option SideState) → AreThere b c o first (Some second) (record { first = hs.first; second = x }) → SidesStand (sides_of first (Some second) (record { first = hs.first; second = x })) (record st { second = y }) → st.second ≡ y
           → StandAgain WithTable b c o3 first'' (Some second') st
@@ -362,19 +418,20 @@ module _ (b : Behaviour) (c : Conduct) (st : SessionState) (still : sessions.IsS
           let waits : IsThere b c o1 second g (Some put.host) = second_beside b c o o1 first' second g put.host (Some hs.first) t.second_there.0 t.second_there.1 (which ∙ t.first_is) put.there in
           let u = stays g (Some put.host) s waits r.second.stands more in
           let back = away put.host (Some g) (first_beside b c o1 o2 first' second' put.host g (Some g) (which ∙ t.first_is) put.there (second_which ∙ t.second_there.0) u.there) in
-          let w : Undone (debugged first'' back.host) st.first =
-          step_undone (λ (target : _) (ps kept : _) (z d : _) m k. all_undone target z d ps kept m k) (debugged first hs.first) (debugged first' put.host) st.first put.use_after (memories b c first.which o hs.first (Some g) t.first_there.stands) r.first.stands none
-          (debugged first'' back.host) put.stepped back.settled in
-          both_wanted o2 o3 first'' second' back.host g s (Some put.host) e (again ∙ (which ∙ t.first_is)) (second_which ∙ t.second_there.0) (record { there = back.there; ran = record { table = w.side.table; stands = w.stands } }) u none more
+          let w : OnlyRan (debugged first'' back.host) st.first =
+          undone_ran (debugged first hs.first) (debugged first' put.host) (debugged first'' back.host) st.first put.use_after (memories b c first.which o hs.first (Some g) t.first_there.stands) r.first.stands none put.stepped table.settles back.settled in
+          both_wanted o2 o3 first'' second' back.host g s (Some put.host) e (again ∙ (which ∙ t.first_is)) (second_which ∙ t.second_there.0) (record { there = back.there; ran = w }) u none more
 
   -- all is taken away again
   pub unprepared : (how : Resume) (o o1 o2 : Option World) (first first' first'' : SideRecord) (second second' second'' : Option SideRecord) (hs : Hosts) → AreThere b c o first second hs → SidesStand (sides_of first second hs) st
-      → (p : AllPrepared b c o1 first first' second second' hs st how) → AllCleared b c o2 first' first'' second' second'' p.hosts → StandAgain WithTable b c o2 first'' second'' st
-  unprepared how o o1 o2 first first' first'' second second' second'' hs there sides p s =
+      → (p : AllPrepared b c o1 first first' second second' hs st how) → TablesStay how first first' second second'
+      → AllCleared b c o2 first' first'' second' second'' p.hosts → StandAgain WithTable b c o2 first'' second'' st
+  unprepared how o o1 o2 first first' first'' second second' second'' hs there sides p stay s =
+      let settles = tables_settle how first first' second second' hs.second p.hosts.second stay in
       stand_again o2 first'' second'' s.hosts s.there
-      (first_cleared how (debugged first hs.first) (debugged first' p.hosts.first) (debugged first'' s.hosts.first) (memories b c first.which o hs.first hs.second there.first_there.stands) sides.first p.prepared.first s.first_settled)
+      (first_cleared how (debugged first hs.first) (debugged first' p.hosts.first) (debugged first'' s.hosts.first) (memories b c first.which o hs.first hs.second there.first_there.stands) sides.first p.prepared.first settles.0 s.first_settled)
       (no_words st.state (debugged first hs.first) st.first still sides.first)
-      (second_cleared how (second_of second hs.second) (second_of second' p.hosts.second) (second_of second'' s.hosts.second) st.second (second_memory o hs.first second hs.second there.second_there) sides.second p.prepared.second s.second_settled)
+      (second_cleared how (second_of second hs.second) (second_of second' p.hosts.second) (second_of second'' s.hosts.second) st.second (second_memory o hs.first second hs.second there.second_there) sides.second p.prepared.second settles.1 s.second_settled)
 
 pub represents_again : (P : Change) (b : Behaviour) (c : Conduct) (o : Option World) (first : SideRecord) (second : Option SideRecord) (mode : Mode) (limit : ℕ) (st : SessionState) → st.state ≡ state_of mode → st.limit ≡ limit → StandAgain P b c o first second st → RepresentsAgain P b c o first second mode limit st
 represents_again P b c o first second mode limit st state lim s = record {

@@ -1,10 +1,14 @@
 -- What a command leaves that found no memory, or that evaluated an expression: a session that stands for the machine session as before, over the
--- tables that it has then, behind `ps` without memory and behind `assign` with numbers stored. (Units of the tables may have been run; that nothing else became of them isn't said here.)
+-- tables that it has then, behind `ps` without memory and behind `assign` with numbers stored. What was closed of these tables is settled at most, more of them may be closed, and nothing of the command is
+-- left in them. (What a unit that was run settled, and what it closed, is what the text of its table makes: that isn't said here.)
 use Rattle.std.specs.Prelude.{◌≡◌, ℕ, [], Option, Some, None, Result, Ok, Err}
 use Rattle.machine_state.specs.State.{Behaviour, order_of}
 use Rattle.nub_wire.specs.Nub.{Host}
 use Rattle.nub_wire.specs.Delivery.{Conduct, World}
+use Rattle.ps_store.specs.declared.object.Part.TheVariants.{Command as CommandPart}
 use Rattle.ps_store.specs.StoreState.{StoreState}
+use Rattle.ps_store.specs.Store.{closed_part}
+use Rattle.ps_store.specs.Settled.{Settled}
 use Rattle.c_session.specs.declared.command.Command.{Command}
 use Rattle.c_session.specs.declared.command.Command.TheVariants as command
 use Rattle.claims.specs.Side.{SideState, SessionState}
@@ -40,20 +44,35 @@ IsInquired c = IsAskedAlone c
 
 -- ---- a table
 
--- units of it may have been run: points whose names were closed are the same rows, and the command has left nothing
+-- Units of it may have been run: what was closed is settled at most, and more may be closed. No objects of a command are there where none were.
+pub record OnlySettles (s t : StoreState) : Type 0 where
+  pub closed : Settled (closed_part s) (closed_part t)
+  pub nothing : s.command ≡ no_objects → t.command ≡ no_objects
+
+-- the same table, where what is made is a command's
+abbrev pub in_command : StoreState → StoreState
+in_command s = record s { part = CommandPart }
+
+-- so is a side's table behind a command, and points whose names were closed are the same rows
 pub record TableStays (s t : StoreState) : Type 0 where
   pub names : (d : Debugged) → HasNames (record d { table = s }) → IsStill (record d { table = s }) (record d { table = t }) × HasNames (record d { table = t })
-  pub nothing : s.command ≡ no_objects → t.command ≡ no_objects
+  pub settles : OnlySettles (in_command s) (in_command t)
+
+abbrev pub KeepsTable : (old new : SideRecord) → Type 0
+KeepsTable old new = TableStays old.inquiry.core.store new.inquiry.core.store
 
 -- ---- what is changed of a side
 
-abbrev pub WithTable : (a a' : SideState) → Type 0
-WithTable a a' = a' ≡ record a { table = a'.table }
+-- units of its table may have been run
+pub record WithTable (a a' : SideState) : Type 0 where
+  pub same : a' ≡ record a { table = a'.table }
+  pub settles : OnlySettles a.table a'.table
 
 -- numbers were stored in the memory of its machine, too
 pub record WithNumbers (a a' : SideState) : Type 0 where
   pub same : a' ≡ record a { machine = record a.machine { memory = a'.machine.memory }; table = a'.table }
   pub stores : StoresNumbers (order_of a.machine) a.machine.memory a'.machine.memory
+  pub settles : OnlySettles a.table a'.table
 
 -- by a command that found no memory
 abbrev pub Leaves : Command → (a a' : SideState) → Type 0
@@ -78,9 +97,10 @@ LeavesIfAny (Some c) r a a' = Leaves c a a'
 
 -- ---- a side
 
--- it stands for the machine session's side with another table
+-- it stands for the machine session's side where units of its table may have been run
 pub record OnlyRan (d : Debugged) (a : SideState) : Type 0 where
   pub table : StoreState
+  pub settles : OnlySettles a.table table
   pub stands : StandsFor d (record a { table = table })
 
 -- its nub and machine are at rest, as they were

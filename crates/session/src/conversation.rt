@@ -18,7 +18,7 @@ ghost use Rattle.session.specs.Starting.{IsFirst, AreFirst, HasRisen, one_sessio
 ghost use Rattle.nub_wire.specs.Nub.{Host};
 ghost use Rattle.claims.specs.Side.{SessionState};
 ghost use Rattle.session.specs.Meant.{IsThere, ComesTo, Settled, Hosts, AreSteady, AreThere, ResumesAll, SaidAll, NotAll, IsInquiry, IsExpression, IsLook, IsAskable, IsSaid, IsSaidIfAny, AreReadyFor, Represents, AllCleared, AllPrepared, AllSettled, TalksWell, AnswersAs, MeantAnswers, ResumesAs, IsResumable, MayAlsoRun, sides_of};
-ghost use Rattle.session.specs.Wanting.{IsAskedAlone, IsInquired, IsText, Leaves, LeavesIfAny, LeavesTarget, RepresentsAgain, StandAgain, WithNumbers, WithTable};
+ghost use Rattle.session.specs.Wanting.{IsAskedAlone, IsInquired, IsText, KeepsTable, Leaves, LeavesIfAny, LeavesTarget, RepresentsAgain, StandAgain, WithNumbers, WithTable};
 ghost use Rattle.ldb_edge.specs.Count.{Rose};
 ghost use Rattle.resuming.specs.Runs.{CountsRun};
 ghost use Rattle.side_meaning.specs.Sessions.{SidesStand, IsStill};
@@ -240,7 +240,8 @@ impl<L: Link + Drop> Session<L> {
     /// where it is `break`, `clear` or `frame` and is done, or its link failed. `continue` and `step` tell the event of all
     /// sides, or aren't begun, or end the session. Without memory the session's state, its limit, its breakpoints and its chosen
     /// frames are as before, and so are its targets and the count of the link's faults, and nothing was put into the output; units of
-    /// tables that were run stay so, and what a text of PostScript stored in the target stays. Unless the link failed,
+    /// tables that were run stay so, what was closed of a table is settled at most, and nothing of the command is left in it; what a
+    /// text of PostScript stored in the target stays. Unless the link failed,
     /// lines to `eval` and `code` leave as much as it was, and lines to `assign`, refusals too, all but numbers that were stored in the targets.
     /// The reply `target` comes only as the session ends.
     pub fn command<O: Sink>(&mut self, line: &[u8], out: &mut O) -> Result<Answer, End>
@@ -268,7 +269,7 @@ impl<L: Link + Drop> Session<L> {
         ensures target { (b : Behaviour) (hs : Hosts) (st : SessionState) (c : Command) → Represents b L.conduct (L.world self.old.talk.memory.below.below.below.link) self.old.first self.old.second self.old.mode self.old.limit hs st → read_of self.old.raw line.now ≡ Some c → c ≢ Continue → c ≢ Step
             → (self.new.mode ≡ self.old.mode) ⊎ Rose (L.faults self.old.talk.memory.below.below.below.link) (L.faults self.new.talk.memory.below.below.below.link) }
         ensures count { CountsAnswer (L.faults self.old.talk.memory.below.below.below.link) (L.faults self.new.talk.memory.below.below.below.link) self.old.broken self.new.mode result }
-        ensures ends { self.old.broken ≡ codes "target\n" → result ≡ Ok (Answer.Lines (codes "target\n")) → self.new.mode ≡ Mode.Ended }
+        ensures ends { result ≡ Ok (Answer.Lines (codes "target\n")) → self.new.mode ≡ Mode.Ended }
         ensures leads { O.leads out.old out.new }
     {
         match read_command(self.alloc, line, self.raw) {
@@ -475,6 +476,7 @@ impl<L: Link + Drop> Session<L> {
         ensures broken { self.new.broken ≡ self.old.broken }
         ensures stays { (b : Behaviour) (hs : Hosts) (st : SessionState) → Represents b L.conduct (L.world self.old.talk.memory.below.below.below.link) self.old.first self.old.second self.old.mode self.old.limit hs st → IsStill st.state → IsUndone result → StandAgain WithTable b L.conduct (L.world self.new.talk.memory.below.below.below.link) self.new.first self.new.second st }
         ensures count { CountsAsk (L.faults self.old.talk.memory.below.below.below.link) (L.faults self.new.talk.memory.below.below.below.link) result }
+        ensures tables { OnOk result (KeepsTable self.old.first self.new.first × OnSecond KeepsTable self.old.second self.new.second) }
     {
         match prepared(&mut self.talk, &mut self.first) {
             Ok(()) => {}

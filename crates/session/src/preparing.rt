@@ -11,7 +11,7 @@ ghost use Rattle.claims.specs.Side.{SideState};
 ghost use Rattle.session.specs.Meant.{IsThere, debugged, ComesTo, Stepped, Unstepped, Settled, TalksTo};
 ghost use Rattle.session.specs.Pointed.{Last, AllTold, NoneTold};
 ghost use Rattle.session.specs.Turned.{turned};
-ghost use Rattle.session.specs.Wanting.{StaysOne, TableStays};
+ghost use Rattle.session.specs.Wanting.{KeepsTable, StaysOne, TableStays};
 ghost use Rattle.ps_store.specs.StoreState.{StoreState};
 ghost use Rattle.side_meaning.specs.Standing.{IsTable, StandsFor};
 
@@ -94,6 +94,7 @@ pub fn prepared<L: Link + Drop>(
     ensures stays { (b : Behaviour) (h : Host) (beside : Option Host) (a : SideState) → IsThere b L.conduct (L.world talk.old.memory.below.below.below.link) side.old h beside → StandsFor (debugged side.old h) a → a.step_words ≡ [] → IsUndone result
         → StaysOne b L.conduct (L.world talk.new.memory.below.below.below.link) side.new h beside a }
     ensures count { CountsAsk (L.faults talk.old.memory.below.below.below.link) (L.faults talk.new.memory.below.below.below.link) result }
+    ensures table { KeepsTable side.old side.new }
 {
     if !side.row.step_words.is_empty() {
         return Ok(());

@@ -1,5 +1,5 @@
 use Rattle.side_meaning.specs.Stepping.{IsReady}
-use Rattle.std.proofs.Common.{◌≡◌, ◌∙◌, refl, ap, sym, subst, ℕ, List, length, drop, [], Option, Some, Ok, Err, arith}
+use Rattle.std.proofs.Common.{◌≡◌, ◌∙◌, ap, sym, subst, ℕ, List, length, drop, [], Option, Some, Ok, Err, arith}
 use Rattle.resuming.specs.Standing.{Stands}
 use Rattle.table_asks.specs.declared.fault.AskFault.TheVariants.{NoMemory, Broken}
 use Rattle.session.specs.Turned.{byte_of}
@@ -17,7 +17,7 @@ use Rattle.session.specs.Counted.{CountsFault}
 use Rattle.session.specs.Wanting.{StaysOne, StoresOne, WithTable, WithNumbers, StandAgain}
 use Rattle.session.proofs.Asking.{none_mapped}
 use Rattle.session.proofs.Counting.{fault_on}
-use Rattle.session.proofs.Wanting.{one_stays, stands_same, same_numbers, first_wanted, given_again}
+use Rattle.session.proofs.Wanting.{one_stays, stands_same, same_with, same_numbers, first_wanted, given_again}
 use Rattle.session.proofs.Storing.{stored_back, undone_unbroken, done_unbroken, first_numbers, both_numbers}
 use Rattle.session.specs.Kept.{IsFailure, IsUndone}
 use Rattle.table_asks.specs.Faults.{IsUnbroken}
@@ -124,7 +124,7 @@ returns-in-Err-said-clause-stays g c = λ b hs st there ready runs read is.
     (subst (λ (z : _). StandAgain WithTable b g.L.Link.conduct (g.L.Link.world z.memory.below.below.below.link) c.asked-said.new.side (Some c.args.second.now) st) (sym w.2) again)
 
 pub returns-in-Err-clause-stays : goal.returns-in-Err-clause-stays
-returns-in-Err-clause-stays g c = λ b hs st there ready runs read is. stands_same WithTable (λ a. refl) b g.L.Link.conduct (g.L.Link.world c.args.talk.now.memory.below.below.below.link) c.args.first.now (Some c.args.second.now) hs st there ready.sides
+returns-in-Err-clause-stays g c = λ b hs st there ready runs read is. stands_same WithTable same_with b g.L.Link.conduct (g.L.Link.world c.args.talk.now.memory.below.below.below.link) c.args.first.now (Some c.args.second.now) hs st there ready.sides
 
 -- ---- the link's count, and what stores nothing
 

@@ -1,4 +1,4 @@
-use Rattle.std.proofs.Common.{◌≡◌, ◌∙◌, refl, ℕ, List, subst, Some, Err}
+use Rattle.std.proofs.Common.{◌≡◌, ◌∙◌, ℕ, List, subst, Some, Err}
 use Rattle.claims.specs.Outcome.{DoneOnBoth}
 use Rattle.abs_mem.specs.WireMeaning.{memory_of}
 use Rattle.resuming.specs.Standing.{Stands}
@@ -6,7 +6,7 @@ use Rattle.session.specs.Meant.{SaidAll, NotAll, ComesTo, TalksWell}
 use Rattle.session.specs.Undoing.{words_before}
 use Rattle.session.proofs.Counting.{counts_on}
 use Rattle.session.specs.Wanting.{WithTable, WithNumbers}
-use Rattle.session.proofs.Wanting.{stands_same, same_numbers}
+use Rattle.session.proofs.Wanting.{stands_same, same_with, same_numbers}
 use Rattle.session.proofs.Looked.{read_well}
 use Rattle.session.proofs.AskingBoth.{still_there, read_failed, read_rests}
 use Rattle.session.proofs.both.asked_both.Goals as goal
@@ -25,7 +25,7 @@ returns-in-Err-clause-stays g c = λ b hs st there ready runs is.
     let rests =
     read_rests (List ℕ) (g.L.Link.faults c.args.talk.now.memory.below.below.below.link) (g.L.Link.faults c.words_before.new.talk.memory.below.below.below.link) (Stands b g.L.Link.conduct first.which (g.L.Link.world c.words_before.new.talk.memory.below.below.below.link) hs.first hs.second)
     (words_before c.args.command.now (memory_of hs.first.machine) first.row.breaks.items) c.in-Err.fault is (c.in-Err.ensures.fails b hs.first hs.second there.first_there.stands there.first_there.order) in
-    stands_same WithTable (λ a. refl) b g.L.Link.conduct (g.L.Link.world c.words_before.new.talk.memory.below.below.below.link) first (Some c.args.second.now) hs st
+    stands_same WithTable same_with b g.L.Link.conduct (g.L.Link.world c.words_before.new.talk.memory.below.below.below.link) first (Some c.args.second.now) hs st
     (still_there b g.L.Link.conduct (g.L.Link.world c.args.talk.now.memory.below.below.below.link) (g.L.Link.world c.words_before.new.talk.memory.below.below.below.link) first c.args.second.now hs.first hs.second there rests) ready.sides
 
 pub returns-in-Err-clause-stores : goal.returns-in-Err-clause-stores

@@ -15,7 +15,7 @@ use Rattle.session.proofs.Beside.{second_beside, first_beside}
 use Rattle.session.proofs.AskingBoth.{failure_or}
 use Rattle.session.proofs.Looked.{stays_well, only_well, fails_on, well_on, well_there, undone_there, with_second_there, counts_same, unset_counts, unset_well, on_ok, unbroken_there, first_still}
 use Rattle.session.proofs.Ending.{set_else, outside_else}
-use Rattle.session.proofs.Wanting.{stands_same, first_wanted, second_asked, side_stays, there_stays}
+use Rattle.session.proofs.Wanting.{stands_same, same_with, first_wanted, second_asked, side_stays, there_stays}
 use Rattle.session.proofs.Storing.{none_stores, put_stores, both_numbers}
 use Rattle.session.proofs.both.assign_both.Goals as goal
 
@@ -112,7 +112,7 @@ returns-in-Ok-here-clause-evaluated g c = λ b (hs : Hosts) there.
 -- ---- without memory
 
 pub returns-in-Err-clause-stays : goal.returns-in-Err-clause-stays
-returns-in-Err-clause-stays g c = λ b hs st there ready u. stands_same WithTable (λ a. refl) b g.L.Link.conduct (g.L.Link.world c.args.talk.now.memory.below.below.below.link) c.args.first.now (Some c.args.second.now) hs st there ready.sides
+returns-in-Err-clause-stays g c = λ b hs st there ready u. stands_same WithTable same_with b g.L.Link.conduct (g.L.Link.world c.args.talk.now.memory.below.below.below.link) c.args.first.now (Some c.args.second.now) hs st there ready.sides
 
 pub returns-in-Err-mine-clause-stays : goal.returns-in-Err-mine-clause-stays
 returns-in-Err-mine-clause-stays g c = λ b (hs : Hosts) (st : SessionState) there ready u.

@@ -9,6 +9,7 @@ use Rattle.session.proofs.Pointing.{no_items}
 use Rattle.session.proofs.Counting.{plants_counts, unbroken_on}
 use Rattle.session.proofs.Looked.{unprepared_stays, unplanted_stays}
 use Rattle.session.proofs.Words.{wire_of, seen_on, plants_by, found, stepped, not_told_turned, not_planted, stays_by, some_items}
+use Rattle.session.proofs.Wanting.{same_table}
 use Rattle.session.proofs.preparing.prepared.Goals as goal
 
 pub returns-then-not-is_empty-clause-meant : goal.returns-then-not-is_empty-clause-meant
@@ -78,3 +79,17 @@ returns-in-Ok-plant_for_step-clause-count g c =
     plants_by g.L.Link.world g.L.Link.faults g.L.Link.conduct c.args.side.now c.args.talk.now c.turn.new.talk c.byte-target.result c.in-Ok.points.items c.plant_for_step.new.points.items (Ok tt)
     (wire_seen g.L.Link.conduct (g.L.Link.world m.link) (g.L.Link.faults m.link) m.side m.order) c.turn.ensures c.byte-target.ensures.value c.in-Ok-plant_for_step.ensures.meaning in
     p.0
+
+-- ---- its table
+
+pub returns-then-not-is_empty-clause-table : goal.returns-then-not-is_empty-clause-table
+returns-then-not-is_empty-clause-table g c = same_table c.args.side.now.inquiry.core.store
+
+pub returns-in-Err-clause-table : goal.returns-in-Err-clause-table
+returns-in-Err-clause-table g c = c.points_of.ensures.table
+
+pub returns-in-Ok-plant_for_step-clause-table : goal.returns-in-Ok-plant_for_step-clause-table
+returns-in-Ok-plant_for_step-clause-table g c = c.points_of.ensures.table
+
+pub returns-in-Err-plant_for_step-clause-table : goal.returns-in-Err-plant_for_step-clause-table
+returns-in-Err-plant_for_step-clause-table g c = c.points_of.ensures.table

@@ -56,7 +56,7 @@ returns-in-Ok g c = record {
   count = c.obey.ensures.count;
   broken = c.obey.ensures.broken;
   raw = c.obey.ensures.raw;
-  ends = λ whole is. c.obey.ensures.ends is;
+  ends = c.obey.ensures.ends;
   leads = c.obey.ensures.leads;
 }
 
@@ -95,5 +95,5 @@ pub returns-in-Ok-Quit-clause-leads : goal.returns-in-Ok-Quit-clause-leads
 returns-in-Ok-Quit-clause-leads g c = g.met.O.Sink.stays c.args.out.now
 
 pub returns-in-Err-Line-clause-ends : goal.returns-in-Err-Line-clause-ends
-returns-in-Err-Line-clause-ends g c = λ whole is.
+returns-in-Err-Line-clause-ends g c = λ is.
     absurd (answers_else (line_reply c.args.line.now) (Ok c.malformed.result) c.malformed.ensures.reply (line_else (is_empty c.args.line.now)) is)

@@ -1,4 +1,4 @@
-use Rattle.std.proofs.Common.{◌∙◌, ap, subst, Option, Some, Result, Ok, Err}
+use Rattle.std.proofs.Common.{◌∙◌, ap, sym, subst, Option, Some, Result, Ok, Err}
 use Rattle.table_asks.specs.declared.fault.AskFault.{AskFault}
 use Rattle.side_meaning.specs.Sessions.{SidesStand}
 use Rattle.side_meaning.proofs.Starting.{no_words}
@@ -14,6 +14,8 @@ use Rattle.claims.specs.Outcome.{Begins}
 use Rattle.session.specs.Meant.{debugged, sides_of, Hosts, AreThere, NotAll}
 use Rattle.session.proofs.Words.{wire_of}
 use Rattle.session.proofs.Readying.{TakesAway, first_unput, prepare_none, prepare_some, broken_some, unput_some}
+use Rattle.session.specs.Resuming.{OnSecond}
+use Rattle.session.specs.Wanting.{KeepsTable}
 use Rattle.session.proofs.conversation.Session.prepare.Goals as goal
 
 pub returns-in-Err-clause-meant : goal.returns-in-Err-clause-meant
@@ -76,7 +78,7 @@ returns-else-is_broken-clause-stays g c = λ (b : Behaviour) (hs : Hosts) (st : 
     let f2 = g.L.Link.faults (wire_of c.prepared-in-Some.new.talk).link in
     let f3 = g.L.Link.faults (wire_of c.taken_away.new.talk).link in
     second_unput b g.L.Link.conduct st still o o1 o2 o3 (g.L.Link.faults (wire_of s.talk).link) (g.L.Link.faults (wire_of c.prepared.new.talk).link) f2 f3 s.first c.prepared.new.side c.taken_away.new.side c.in-Some.second c.prepared-in-Some.new.side hs c.prepared.ensures.which c.taken_away.ensures.which
-    c.prepared-in-Some.ensures.which (subst (λ (z : Option SideRecord). AreThere b g.L.Link.conduct o s.first z hs) c.in-Some.is is.there) (subst (λ (z : Option SideRecord). SidesStand (sides_of s.first z hs) st) c.in-Some.is is.sides) (c.in-Ok.ensures.meant b)
+    c.prepared-in-Some.ensures.which (subst (λ (z : Option SideRecord). AreThere b g.L.Link.conduct o s.first z hs) c.in-Some.is is.there) (subst (λ (z : Option SideRecord). SidesStand (sides_of s.first z hs) st) c.in-Some.is is.sides) (c.in-Ok.ensures.meant b) c.prepared.ensures.table
     (λ h beside a x for none. c.in-Err-prepared.ensures.stays b h beside a x for none w.1)
     (subst (λ (r : Result (Unit {0}) AskFault). TakesAway b g.L.Link.conduct o2 o3 f2 f3 c.prepared.new.side c.taken_away.new.side r) w.0 (c.taken_away.ensures.meant b))
 
@@ -87,3 +89,11 @@ returns-else-is_broken-clause-count g c =
 
 pub returns-in-Ok-prepared-clause-count : goal.returns-in-Ok-prepared-clause-count
 returns-in-Ok-prepared-clause-count g c = c.in-Ok-prepared.ensures.count ∙ c.in-Ok.ensures.count
+
+-- ---- the tables
+
+pub returns-in-None-clause-tables : goal.returns-in-None-clause-tables
+returns-in-None-clause-tables g c = (c.prepared.ensures.table, subst (λ (z : Option SideRecord). OnSecond KeepsTable z z) (sym c.in-None.is) tt)
+
+pub returns-in-Ok-prepared-clause-tables : goal.returns-in-Ok-prepared-clause-tables
+returns-in-Ok-prepared-clause-tables g c = (c.prepared.ensures.table, subst (λ (z : Option SideRecord). OnSecond KeepsTable z (Some c.prepared-in-Some.new.side)) (sym c.in-Some.is) c.prepared-in-Some.ensures.table)

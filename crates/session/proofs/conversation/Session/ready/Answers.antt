@@ -1,4 +1,4 @@
-use Rattle.std.proofs.Common.{◌≡◌, ◌∙◌, ◌≤◌, refl, sym, ap, subst, arith}
+use Rattle.std.proofs.Common.{◌≡◌, ◌∙◌, ◌≤◌, sym, ap, subst, arith}
 use Rattle.machine_state.specs.State.{Behaviour}
 use Rattle.claims.specs.Side.{SessionState}
 use Rattle.session.specs.declared.conversation.Session.{Session}
@@ -9,7 +9,7 @@ use Rattle.session.specs.Meant.{Hosts, AllPrepared, NotAll, ResumesAs}
 use Rattle.c_session.specs.Commands.{ByStep, ByContinue}
 use Rattle.table_asks.specs.declared.fault.AskFault.TheVariants.{NoMemory}
 use Rattle.session.specs.Wanting.{WithTable, StandAgain}
-use Rattle.session.proofs.Wanting.{stands_same}
+use Rattle.session.proofs.Wanting.{TablesStay, stands_same, same_with}
 use Rattle.session.proofs.Looked.{undone_as}
 use Rattle.session.proofs.Tallying.{left_wants, wanted_counts, unready}
 use Rattle.session.proofs.Words.{wire_of}
@@ -98,20 +98,21 @@ returns-in-Err-line_for-clause-stays g c = λ (b : Behaviour) (hs : Hosts) (st :
     elim c.match-self.branch [
       | in-Running-default w1 ↦
           let same : n ≡ s = c.settle-in-Err-line_for.ensures.running w1.in-Running-default.field-0-0 (ap (λ (z : Session g.row.L.Denot). z.mode) w1.self-is ∙ w1.in-Running-default.is-0) ∙ w1.self-is in
-          subst (λ (z : Session g.row.L.Denot). StandAgain WithTable b g.L.Link.conduct (g.L.Link.world (wire_of z.talk).link) z.first z.second st) (sym same) (stands_same WithTable (λ a. refl) b g.L.Link.conduct o s.first s.second hs st is.there is.sides)
+          subst (λ (z : Session g.row.L.Denot). StandAgain WithTable b g.L.Link.conduct (g.L.Link.world (wire_of z.talk).link) z.first z.second st) (sym same) (stands_same WithTable same_with b g.L.Link.conduct o s.first s.second hs st is.there is.sides)
       | in_default-ByContinue+in-Ok w1 ↦
           let still = is_still s.mode st w1.in_default-ByContinue.not-Running-0 is.state may in
           let mid = w1.settle.new.self in
           let p = settled_prepares b g.L.Link.conduct (g.L.Link.world (wire_of mid.talk).link) s.first mid.first s.second mid.second hs st (w1.in-Ok.ensures.meant b hs st is still) in
           let q : AllPrepared b g.L.Link.conduct (g.L.Link.world (wire_of m.talk).link) s.first m.first s.second m.second hs st ByContinue =
           subst (λ (z : Session g.row.L.Denot). AllPrepared b g.L.Link.conduct (g.L.Link.world (wire_of z.talk).link) s.first z.first s.second z.second hs st ByContinue) (sym w1.self-is) p in
-          unready b g.L.Link.conduct st still ByContinue o (g.L.Link.world (wire_of m.talk).link) on s.first m.first n.first s.second m.second n.second hs is.there is.sides q c.settle-in-Err-line_for.result w.0
+          unready b g.L.Link.conduct st still ByContinue o (g.L.Link.world (wire_of m.talk).link) on s.first m.first n.first s.second m.second n.second hs is.there is.sides q tt c.settle-in-Err-line_for.result w.0
           (c.settle-in-Err-line_for.ensures.cleared b q.hosts (λ how e. w1.in_default-ByContinue.not-Running-0 how (sym (ap (λ (z : Session g.row.L.Denot). z.mode) w1.self-is ∙ w1.settle.ensures.mode) ∙ e)) q.there)
       | in_default-ByStep+in-Ok-prepare w1 ↦
           let still = is_still s.mode st w1.in_default-ByStep.not-Running-0 is.state may in
           let mid = w1.prepare.new.self in
           let q : AllPrepared b g.L.Link.conduct (g.L.Link.world (wire_of m.talk).link) s.first m.first s.second m.second hs st ByStep =
           subst (λ (z : Session g.row.L.Denot). AllPrepared b g.L.Link.conduct (g.L.Link.world (wire_of z.talk).link) s.first z.first s.second z.second hs st ByStep) (sym w1.self-is) (w1.in-Ok-prepare.ensures.meant b hs st is still) in
-          unready b g.L.Link.conduct st still ByStep o (g.L.Link.world (wire_of m.talk).link) on s.first m.first n.first s.second m.second n.second hs is.there is.sides q c.settle-in-Err-line_for.result w.0
+          let stay : TablesStay ByStep s.first m.first s.second m.second = subst (λ (z : Session g.row.L.Denot). TablesStay ByStep s.first z.first s.second z.second) (sym w1.self-is) w1.in-Ok-prepare.ensures.tables in
+          unready b g.L.Link.conduct st still ByStep o (g.L.Link.world (wire_of m.talk).link) on s.first m.first n.first s.second m.second n.second hs is.there is.sides q stay c.settle-in-Err-line_for.result w.0
           (c.settle-in-Err-line_for.ensures.cleared b q.hosts (λ how e. w1.in_default-ByStep.not-Running-0 how (sym (ap (λ (z : Session g.row.L.Denot). z.mode) w1.self-is ∙ w1.prepare.ensures.mode) ∙ e)) q.there)
     ]
