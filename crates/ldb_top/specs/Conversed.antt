@@ -51,8 +51,8 @@ asks_sides (Some c) = true
 -- ---- lines that aren't answered as in the machine session
 
 -- A command that asks the sides, in a state that doesn't refuse it, and for which there was no memory; or `eval`, `assign` or `code`, of whose reply
--- nothing is told here. Behind it the session is as before, over some tables; `assign`, whatever it was answered, and `ps` without memory, may have stored
--- numbers to the target.
+-- nothing is told here. Behind it the session is as before, over tables of which what was closed is settled at most; `assign`, whatever it was answered,
+-- and `ps` without memory, may have stored numbers to the target.
 pub record IsPassed (st : SessionState) (c : Option Command) (reply : List ℕ) (next : SessionState) : Type 0 where
   pub answer : Answer
   pub passes : LeavesTarget c (Ok answer)
