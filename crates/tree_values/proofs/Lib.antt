@@ -1,0 +1,9 @@
+mod Chaining
+mod Low_Reaching
+mod Low_Unstored
+mod Placing
+mod Looked
+mod Part
+mod Arms
+mod Fitting
+mod Nodes
