@@ -19,7 +19,7 @@ use Rattle.c_mentions.specs.Literals.{in_statement}
 use Rattle.c_scope.specs.Environment.{Environment, Row, declare_local, innermost, number_of}
 use Rattle.c_scope.specs.Findings.{Fine}
 use Rattle.c_scope.specs.Declarators.{Parameter, parameter_type}
-use Rattle.c_body.specs.Bodies.{found, in_function}
+use Rattle.c_parts.specs.Bodies.{found, in_function}
 use Rattle.c_body.specs.Stops.{stops_of, inside_block}
 use Rattle.c_body.specs.Calls.{calls_in}
 use Rattle.c_file.specs.Files.{State, Bodied, with_parameters, are_named}

@@ -16,11 +16,13 @@ use Rattle.c_mentions.specs.Tags.{in_all, in_external, in_file_spec, in_declared
 use Rattle.c_scope.specs.Environment.{Environment, enter}
 use Rattle.c_scope.specs.Findings.{Finding, fine, nothing, ◌beside◌, holds}
 use Rattle.c_scope.specs.Declarators.{Shape, Object, Function, shape, parameter_type, name_in}
-use Rattle.c_body.specs.Bodies.{found, in_function, is_block, after}
+use Rattle.c_parts.specs.Bodies.{found, in_function, is_block, after}
 use Rattle.c_body.specs.Stops.{inside_block}
 use Rattle.c_linkage.specs.Names.{name_found, as_built_in, as_main, one_linkage, one_type, is_built_in}
 use Rattle.c_file.specs.Files.{State, with_name, with_head, with_spec, after_all, function_row, body_environment, function_found, behind_body, after_function, are_named, Externals, AllExternals, Onward}
-use Rattle.c_file.specs.Programs.{Told, Well, Breaks, in_file, ◌before◌, built_ins, built_in_rows, next_file, at_first, AllFiles, takes_many}
+use Rattle.c_file.specs.Programs.{Told, Well, Breaks, in_file, ◌before◌, next_file, at_first, AllFiles}
+use Rattle.c_linkage.specs.BuiltIns.{built_ins, built_in_rows}
+use Rattle.c_linkage.specs.Parameters.{takes_many}
 use Rattle.c_accepted.specs.Grown.{Grows}
 use Rattle.c_accepted.specs.Sources.{IsBody}
 use Rattle.c_accepted.proofs.Known.{never}

@@ -21,9 +21,10 @@ use Rattle.c_scope.specs.Environment.{Environment, enter, scope, scope_of}
 use Rattle.c_scope.specs.Declarators.{constant}
 use Rattle.c_mentions.specs.Literals as literals
 use Rattle.c_mentions.specs.Literals.{number_at}
-use Rattle.c_body.specs.Locals.{after_local}
-use Rattle.c_body.specs.Bodies.{after, judged_in, value_in}
-use Rattle.c_body.specs.Becoming.{Before, past, past_part, IsStop, IsStopOrNone, IsInitial, of_initial, AreLocals, row_list, behind, behind_head, behind_expression, IsLabel, IsReturned, IsHeaded, Becomes, Holds, IsBodyOf}
+use Rattle.c_parts.specs.Locals.{after_local}
+use Rattle.c_parts.specs.Bodies.{after, judged_in, value_in}
+use Rattle.c_body.specs.Becoming.{Before, past, past_part, IsStop, IsStopOrNone, IsInitial, of_initial, AreLocals, behind, behind_head, behind_expression, IsLabel, IsReturned, IsHeaded, Becomes, Holds, IsBodyOf}
+use Rattle.c_parts.specs.Making.{row_list}
 use Rattle.c_accepted.specs.Sources.{AreWords, AllInPart, AllInInitial, AllInNames, AllInHead, AllIn}
 use Rattle.c_accepted.proofs.Words.{HasWords}
 use Rattle.c_accepted.proofs.StatementWords.{HasWordsPart, HaveWordsInits, HasWordsValue, HasWordsIn, HaveWordsRow}

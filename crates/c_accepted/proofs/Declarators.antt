@@ -17,7 +17,7 @@ use Rattle.c_defs.specs.Depths.{deepest, is_within}
 use Rattle.c_mentions.specs.Tags as tags
 use Rattle.c_scope.specs.Environment.{Environment, scope_of, struct_of}
 use Rattle.c_scope.specs.Declarators.{Shape, Object, Function, Parameter, shape, parameters, taken, with_one, is_taken, is_name, is_function, function, unsized, unbounded, bounded, constant, unnamed, unnamed_within, parameter, name_in}
-use Rattle.c_file.specs.Programs.{takes_many, parameters_of}
+use Rattle.c_linkage.specs.Parameters.{takes_many, parameters_of}
 use Rattle.c_accepted.proofs.Known.{never, one_known, then_known, if_known}
 use Rattle.c_accepted.proofs.Runs.{all_first, all_second, all_both}
 use Rattle.c_accepted.proofs.Written.{IsNamed, pointers_named, array_named, bound_most, starred_named, unless_known}

@@ -17,7 +17,7 @@ use Rattle.c_judge.specs.Answers.{Answer, Known, Unknown, Broken, ◌then◌}
 use Rattle.c_scope.specs.Environment.{Environment, Row, enter, innermost}
 use Rattle.c_scope.specs.Declarators.{Shape, Object, Function, parameter_type, shape, name_in}
 use Rattle.c_scope.specs.Findings.{nothing, ◌beside◌, holds}
-use Rattle.c_body.specs.Bodies.{after, is_block}
+use Rattle.c_parts.specs.Bodies.{after, is_block}
 use Rattle.c_body.specs.Stops.{inside_block}
 use Rattle.c_mentions.specs.Tags.{in_all, in_external, in_file_spec, in_declared, in_declarator, in_statement}
 use Rattle.c_linkage.specs.Names.{FileName, agree_as, same_all, composite, is_here, is_built_in, as_built_in, name_found, told_before}

@@ -15,13 +15,14 @@ use Rattle.c_mentions.specs.Tags as tags
 use Rattle.c_scope.specs.Environment.{Environment, Row, Visible, declare_global, innermost, number_of}
 use Rattle.c_scope.specs.Findings.{Fine}
 use Rattle.c_scope.specs.Declarators.{Function, parameter_type}
-use Rattle.c_body.specs.Bodies.{after, found, in_function}
+use Rattle.c_parts.specs.Bodies.{after, found, in_function}
 use Rattle.c_body.specs.Stops.{Stop, stops_of, inside_block}
 use Rattle.c_body.specs.Calls.{calls_in}
 use Rattle.c_linkage.specs.Names.{FileName, is_built_in, is_here, composite, declared_as_main, told_before, bounded_one}
-use Rattle.c_file.specs.Files.{State, Bodied, called_all, with_parameters, are_named}
+use Rattle.c_file.specs.Files.{State, Bodied, with_parameters, are_named}
+use Rattle.c_linkage.specs.Wanted.{called_all}
 use Rattle.c_linkage.specs.Wanted.{Called}
-use Rattle.c_file.specs.Programs.{built_in_rows}
+use Rattle.c_linkage.specs.BuiltIns.{built_in_rows}
 use Rattle.c_accepted.specs.Grown.{Grows}
 use Rattle.c_accepted.specs.Sources.{IsBody}
 use Rattle.c_accepted.proofs.Runs.{IsAt}

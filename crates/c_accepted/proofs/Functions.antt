@@ -19,11 +19,12 @@ use Rattle.c_judge.specs.Answers.{Known}
 use Rattle.c_mentions.specs.Literals.{in_statement}
 use Rattle.c_scope.specs.Environment.{Environment, Row}
 use Rattle.c_scope.specs.Findings.{Fine}
-use Rattle.c_body.specs.Bodies as bodies
-use Rattle.c_body.specs.Bodies.{after, found}
+use Rattle.c_parts.specs.Bodies as bodies
+use Rattle.c_parts.specs.Bodies.{after, found}
 use Rattle.c_body.specs.Stops.{Stop, stop, stops, stops_of, inside_block, opening, closing}
 use Rattle.c_body.specs.Calls.{calls_in}
-use Rattle.c_body.specs.Becoming.{Before, IsBodyOf, row_list}
+use Rattle.c_body.specs.Becoming.{Before, IsBodyOf}
+use Rattle.c_parts.specs.Making.{row_list}
 use Rattle.c_file.specs.Files.{State, Bodied}
 use Rattle.c_file.specs.Made.{behind_block}
 use Rattle.c_accepted.specs.Sources.{IsInOrder, AllIn}

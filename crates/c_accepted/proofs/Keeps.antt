@@ -11,8 +11,8 @@ use Rattle.c_typing.specs.Plain.{Plain}
 use Rattle.c_typing.specs.Expressions.{Denoted}
 use Rattle.c_judge.specs.Answers.{Answer, Known, Unknown, Broken}
 use Rattle.c_scope.specs.Environment.{Environment, Row, declare_local, enter, leave, innermost}
-use Rattle.c_body.specs.Locals.{local_type, with_local, after_local, after_names, after_declaration}
-use Rattle.c_body.specs.Bodies.{after}
+use Rattle.c_parts.specs.Locals.{local_type, with_local, after_local, after_names, after_declaration}
+use Rattle.c_parts.specs.Bodies.{after}
 use Rattle.c_body.specs.Becoming.{Before, Becomes, behind, behind_head, behind_expression}
 use Rattle.c_accepted.proofs.Runs.{all_both}
 

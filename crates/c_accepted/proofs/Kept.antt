@@ -23,8 +23,10 @@ use Rattle.c_scope.specs.Environment.{Row, Visible, innermost, number_of}
 use Rattle.c_body.specs.Stops.{stops_of, inside_block}
 use Rattle.c_body.specs.Calls.{calls_in}
 use Rattle.c_linkage.specs.Names.{is_built_in}
-use Rattle.c_file.specs.Files.{State, Bodied, called_all}
-use Rattle.c_file.specs.Programs.{Well, AllFiles, at_first, any, many, many_in_spec, many_below, takes_many}
+use Rattle.c_file.specs.Files.{State, Bodied}
+use Rattle.c_linkage.specs.Wanted.{called_all}
+use Rattle.c_file.specs.Programs.{Well, AllFiles, at_first}
+use Rattle.c_linkage.specs.Parameters.{any, many, many_in_spec, many_below, takes_many}
 use Rattle.c_linkage.specs.FileTags.{tags_of}
 use Rattle.c_file.specs.Made.{Each, HasRows, IsFunctionOf, IsSymbolOf, all_points, points_from, behind_block, referent_of, type_of_name}
 use Rattle.c_file.specs.Made as made

@@ -15,8 +15,9 @@ use Rattle.c_judge.specs.Answers.{Known}
 use Rattle.c_scope.specs.Environment.{Environment}
 use Rattle.c_scope.specs.Findings.{Fine, fine, holds}
 use Rattle.c_scope.specs.Declarators.{constant}
-use Rattle.c_body.specs.Bodies.{Label, value_in, judged_in, case_label, labels_before, labels_in, same_value, is_used, differ, after, is_plain_block}
-use Rattle.c_body.specs.Becoming.{Before, IsHeaded, Becomes, Holds, row_list, behind, behind_head}
+use Rattle.c_parts.specs.Bodies.{Label, value_in, judged_in, case_label, labels_before, labels_in, same_value, is_used, differ, after, is_plain_block}
+use Rattle.c_body.specs.Becoming.{Before, IsHeaded, Becomes, Holds, behind, behind_head}
+use Rattle.c_parts.specs.Making.{row_list}
 use Rattle.c_accepted.proofs.Known.{if_known, two_known}
 use Rattle.c_accepted.proofs.Keeps.{after_visible}
 

@@ -15,9 +15,10 @@ use Rattle.c_typing.specs.Statements.{local_numbers, locals_of, locals_of_row}
 use Rattle.c_judge.specs.Answers.{Known}
 use Rattle.c_scope.specs.Environment.{Environment, enter}
 use Rattle.c_scope.specs.Findings.{Fine, ◌beside◌, holds}
-use Rattle.c_body.specs.Locals.{local_type, with_local, after_local, after_names, names_found, local_found, initial_found}
-use Rattle.c_body.specs.Bodies.{Around, inside, in_loop, in_block, around_of, tested, head_found, found, after}
-use Rattle.c_body.specs.Becoming.{Before, past, of_initial, AreLocals, row_list, behind, behind_head, behind_expression, IsHeaded, Becomes, Holds}
+use Rattle.c_parts.specs.Locals.{local_type, with_local, after_local, after_names, names_found, local_found, initial_found}
+use Rattle.c_parts.specs.Bodies.{Around, inside, in_loop, in_block, around_of, tested, head_found, found, after}
+use Rattle.c_body.specs.Becoming.{Before, past, of_initial, AreLocals, behind, behind_head, behind_expression, IsHeaded, Becomes, Holds}
+use Rattle.c_parts.specs.Making.{row_list}
 use Rattle.c_mentions.specs.Literals as literals
 use Rattle.c_accepted.specs.Sources.{IsInOrder}
 use Rattle.c_accepted.proofs.Runs.{Runs, runs_on}

@@ -18,8 +18,8 @@ use Rattle.c_judge.specs.Judgement.{spec_type}
 use Rattle.c_mentions.specs.Tags as tags
 use Rattle.c_scope.specs.Environment.{Environment, Row, declare_local, enter, leave, scope_of, struct_of}
 use Rattle.c_scope.specs.Declarators.{Shape, Object, Function, Parameter, shape}
-use Rattle.c_body.specs.Locals.{kept, local_type, local_name, with_local, after_local, after_names}
-use Rattle.c_body.specs.Bodies.{after}
+use Rattle.c_parts.specs.Locals.{kept, local_type, local_name, with_local, after_local, after_names}
+use Rattle.c_parts.specs.Bodies.{after}
 use Rattle.c_file.specs.Files.{State, with_parameters, are_named}
 use Rattle.c_file.specs.Made.{Each, IsLocalOf}
 use Rattle.c_accepted.specs.Grown.{Grows}

@@ -13,7 +13,7 @@ use Rattle.c_defs.specs.Depths.{is_within, are_within}
 use Rattle.c_typing.specs.Values.{size_of}
 use Rattle.c_judge.proofs.Sizes.{size_of_plain}
 use Rattle.c_struct.specs.Structs.{Written, written}
-use Rattle.c_file.specs.Programs.{completed_one, completed_by}
+use Rattle.c_linkage.specs.Completed.{completed_one, completed_by}
 use Rattle.c_accepted.specs.Grown.{ctype_of, IsHeld, Grows}
 use Rattle.c_accepted.proofs.Completed.{IsSound, AreSound, Extends, Agree}
 use Rattle.c_accepted.proofs.Growth.{both_parts, not_empty}

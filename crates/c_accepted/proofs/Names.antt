@@ -17,7 +17,7 @@ use Rattle.c_judge.specs.Answers.{Answer, Known, Unknown, Broken, ◌then◌}
 use Rattle.c_scope.specs.Declarators.{Shape, Object, Function, shape, name_in}
 use Rattle.c_scope.specs.Environment.{Environment}
 use Rattle.c_scope.specs.Findings.{nothing, ◌beside◌, holds}
-use Rattle.c_body.specs.Bodies.{is_block}
+use Rattle.c_parts.specs.Bodies.{is_block}
 use Rattle.c_linkage.specs.declared.definitions.Manner.{Manner}
 use Rattle.c_linkage.specs.declared.definitions.Manner.TheVariants.{Body}
 use Rattle.c_linkage.specs.Names.{FileName, Defining, as_built_in, as_main, one_linkage, one_type, name_found, is_built_in}

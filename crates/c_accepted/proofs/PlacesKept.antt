@@ -23,14 +23,15 @@ use Rattle.c_scope.specs.Declarators.{Shape, Object, Function, parameter_type, s
 use Rattle.c_scope.specs.Findings.{Fine, nothing}
 use Rattle.c_initial.specs.Initials.{Late, initial_found, late_in}
 use Rattle.c_initial.specs.Begins.{begins_of}
-use Rattle.c_body.specs.Bodies.{after}
+use Rattle.c_parts.specs.Bodies.{after}
 use Rattle.c_body.specs.Stops.{inside_block}
 use Rattle.c_linkage.specs.Names.{FileName, bounded_one, composite, is_here, name_found, told_before}
 use Rattle.c_linkage.specs.Telling.{is_unbounded, is_open}
 use Rattle.c_file.specs.Files.{State, awaited, with_name, with_head, with_strings, with_definition, row_of, function_row, body_environment, after_all, after_name, after_what, after_function, what, declared_found, found_as, all_found, initial_or_none, with_spec, Externals}
 use Rattle.c_linkage.specs.Wanted.{Started, Awaited}
 use Rattle.c_linkage.specs.Types.{type_or, standing, object_type, in_limits, may_stand, is_static, is_extern}
-use Rattle.c_file.specs.Programs.{built_ins, built_in_rows, at_first, next_file}
+use Rattle.c_file.specs.Programs.{at_first, next_file}
+use Rattle.c_linkage.specs.BuiltIns.{built_ins, built_in_rows}
 use Rattle.c_accepted.specs.Grown.{IsMade, Grows}
 use Rattle.c_accepted.proofs.Completed.{AreSound}
 use Rattle.c_accepted.proofs.Growth.{both_parts}

@@ -15,10 +15,11 @@ use Rattle.c_tree.specs.declared.typed.Stmt.TheVariants as typed
 use Rattle.c_tree.specs.Points.{points_in, points_in_row}
 use Rattle.c_scope.specs.Environment.{Environment, enter}
 use Rattle.c_mentions.specs.Literals as literals
-use Rattle.c_body.specs.Locals.{after_local}
-use Rattle.c_body.specs.Bodies.{after}
+use Rattle.c_parts.specs.Locals.{after_local}
+use Rattle.c_parts.specs.Bodies.{after}
 use Rattle.c_body.specs.Stops.{stops, at_part, at_locals, at_initial}
-use Rattle.c_body.specs.Becoming.{Before, past, past_part, of_initial, IsStopOrNone, IsInitial, AreLocals, row_list, behind, behind_head, behind_expression, IsHeaded, Becomes, Holds}
+use Rattle.c_body.specs.Becoming.{Before, past, past_part, of_initial, IsStopOrNone, IsInitial, AreLocals, behind, behind_head, behind_expression, IsHeaded, Becomes, Holds}
+use Rattle.c_parts.specs.Making.{row_list}
 use Rattle.c_accepted.specs.Sources.{IsOpened, IsInOrder}
 use Rattle.c_accepted.proofs.Runs.{Runs, runs_on, runs_to}
 

@@ -16,7 +16,7 @@ use Rattle.c_mentions.specs.Literals as literals
 use Rattle.c_mentions.specs.Literals.{Literal, texts, number_at}
 use Rattle.c_mentions.specs.Tags as tags
 use Rattle.c_scope.specs.Environment.{Environment, scope, number_of, struct_of, denoted_by, denoted_at, meant}
-use Rattle.c_body.specs.Calls.{called, called_if}
+use Rattle.c_calls.specs.Calls.{called, called_if}
 use Rattle.c_accepted.specs.Reads.{IsRead, IsCalleeRead, IsSpecRead, IsLeafRead}
 use Rattle.c_accepted.specs.Sources.{AreApart}
 use Rattle.c_accepted.proofs.Runs.{IsAt, all_first, all_second}

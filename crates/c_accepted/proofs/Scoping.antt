@@ -21,8 +21,8 @@ use Rattle.c_judge.specs.Judgement.{spec_type}
 use Rattle.c_judge.specs.Places.{place_of}
 use Rattle.c_scope.specs.Environment.{Environment, Row, Visible, innermost, declare, enter, leave, scope_of}
 use Rattle.c_scope.specs.Declarators.{Shape, Object, Function, shape}
-use Rattle.c_body.specs.Locals.{kept, with_local, local_type, local_name, after_local, after_names, after_declaration}
-use Rattle.c_body.specs.Bodies.{after}
+use Rattle.c_parts.specs.Locals.{kept, with_local, local_type, local_name, after_local, after_names, after_declaration}
+use Rattle.c_parts.specs.Bodies.{after}
 use Rattle.c_body.specs.Stops.{Stop, stop, at_expression, at_part, at_initial, at_locals, at_head, stops, stops_of, opening, closing, inside_block}
 use Rattle.c_mentions.specs.Tags.{in_spec, in_all, in_declared, in_local, in_tree, in_head, in_statement}
 use Rattle.c_accepted.proofs.Known.{never, one_known, then_known}

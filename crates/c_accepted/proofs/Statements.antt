@@ -36,13 +36,15 @@ use Rattle.c_mentions.specs.Literals.{Literal, in_tree, in_part, in_statement, n
 use Rattle.c_mentions.specs.Tags as tags
 use Rattle.c_scope.specs.Environment.{Environment, Row, Visible, declare_local, enter, denoted_by, struct_of, scope, no_literal}
 use Rattle.c_scope.specs.Findings.{Fine, nothing, ◌beside◌, holds, asked_of}
-use Rattle.c_body.specs.Locals.{local_type, local_name, with_local, after_local, after_names, names_found, local_found, initialized_or_not, initial_found}
-use Rattle.c_body.specs.Bodies as bodies
-use Rattle.c_body.specs.Bodies.{judged_in, tested, selected, dropped, returned, part, found, head_found, placed as placed_label, label_found, is_block, after, in_block, around_of, is_plain_block, statement_at, labels_in, differ}
-use Rattle.c_body.specs.Calls.{called, called_part, calls_in, called_locals, called_local, called_declarator, called_initial, called_head}
+use Rattle.c_parts.specs.Locals.{local_type, local_name, with_local, after_local, after_names, names_found, local_found, initialized_or_not, initial_found}
+use Rattle.c_parts.specs.Bodies as bodies
+use Rattle.c_parts.specs.Bodies.{judged_in, tested, selected, dropped, returned, part, found, head_found, placed as placed_label, label_found, is_block, after, in_block, around_of, is_plain_block, statement_at, labels_in, differ}
+use Rattle.c_body.specs.Calls.{calls_in, called_locals, called_local, called_head}
+use Rattle.c_calls.specs.Calls.{called, called_part, called_declarator, called_initial}
 use Rattle.c_body.specs.Stops.{Stop, stop, stops, at_expression, at_part, at_initial, at_locals, at_head}
 use Rattle.c_body.specs.Becoming as becoming
-use Rattle.c_body.specs.Becoming.{Before, past, past_part, of_initial, IsExpression, IsStop, IsStopOrNone, IsInitial, AreLocals, row_list, behind, behind_head, behind_expression, IsHeaded, Becomes, Holds}
+use Rattle.c_body.specs.Becoming.{Before, past, past_part, of_initial, IsExpression, IsStop, IsStopOrNone, IsInitial, AreLocals, behind, behind_head, behind_expression, IsHeaded, Becomes, Holds}
+use Rattle.c_parts.specs.Making.{row_list}
 use Rattle.c_accepted.proofs.Words.{HasWords}
 use Rattle.c_accepted.specs.Reads.{Reads, IsRead}
 use Rattle.c_accepted.specs.Sources.{IsInOrder, AreApart, AllIn, AllInPart, AllInInitial, AllInNames}

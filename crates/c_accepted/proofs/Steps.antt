@@ -20,15 +20,18 @@ use Rattle.c_mentions.specs.Tags as tags
 use Rattle.c_scope.specs.Environment.{Environment, enter, struct_of}
 use Rattle.c_scope.specs.Findings.{Fine}
 use Rattle.c_scope.specs.Declarators.{Shape, Object, Function, Parameter, shape, parameter_type}
-use Rattle.c_body.specs.Bodies.{after, found, in_function}
+use Rattle.c_parts.specs.Bodies.{after, found, in_function}
 use Rattle.c_body.specs.Stops.{stops_of, inside_block}
 use Rattle.c_body.specs.Calls.{calls_in}
 use Rattle.c_linkage.specs.declared.definitions.Manner.{Manner}
 use Rattle.c_linkage.specs.Names.{FileName, told_before, as_main, declared_as_main}
-use Rattle.c_file.specs.Files.{State, Bodied, called_all, are_named, with_name, with_declarator, with_initial, with_definition, with_spec, row_of, after_what, after_name, after_all, what, manner_of, defining, wanting, body_environment, bodied, behind_body}
+use Rattle.c_file.specs.Files.{State, Bodied, are_named, with_name, with_declarator, with_initial, with_definition, with_spec, row_of, after_what, after_name, after_all, what, manner_of, defining, wanting, body_environment, bodied, behind_body}
+use Rattle.c_linkage.specs.Wanted.{called_all}
 use Rattle.c_linkage.specs.Wanted.{Called}
 use Rattle.c_linkage.specs.Types.{standing, object_type, in_limits, may_stand, is_extern}
-use Rattle.c_file.specs.Programs.{built_in_rows, completed_by, takes_many}
+use Rattle.c_linkage.specs.BuiltIns.{built_in_rows}
+use Rattle.c_linkage.specs.Completed.{completed_by}
+use Rattle.c_linkage.specs.Parameters.{takes_many}
 use Rattle.c_accepted.specs.Grown.{Grows}
 use Rattle.c_accepted.proofs.Completed.{Extends}
 use Rattle.c_accepted.specs.Sources.{IsBody}

@@ -18,13 +18,14 @@ use Rattle.c_judge.specs.Answers.{Answer, Known, Unknown, Broken, ◌then◌}
 use Rattle.c_scope.specs.Environment.{Environment, Row, declare_local, enter}
 use Rattle.c_scope.specs.Declarators.{Shape, Object, Function, Parameter, shape, denoted}
 use Rattle.c_scope.specs.Findings.{nothing}
-use Rattle.c_body.specs.Bodies.{after}
+use Rattle.c_parts.specs.Bodies.{after}
 use Rattle.c_body.specs.Stops.{stops_of, inside_block}
 use Rattle.c_mentions.specs.Tags.{in_all, in_external, in_file_spec, in_declared, in_declarator, in_statement}
 use Rattle.c_linkage.specs.Names.{FileName, composite, is_here, told_before}
 use Rattle.c_file.specs.Files.{State, Bodied, with_name, with_head, with_strings, with_definition, row_of, function_row, after_all, after_name, after_what, after_function, bodied, what, with_parameters, body_environment, with_spec, Externals}
 use Rattle.c_linkage.specs.Types.{standing}
-use Rattle.c_file.specs.Programs.{completed_by, incomplete, at_first, next_file}
+use Rattle.c_file.specs.Programs.{at_first, next_file}
+use Rattle.c_linkage.specs.Completed.{completed_by, incomplete}
 use Rattle.c_accepted.specs.Grown.{Grows}
 use Rattle.c_accepted.proofs.Completed.{AreSound, Extends}
 use Rattle.c_accepted.proofs.Known.{then_known}

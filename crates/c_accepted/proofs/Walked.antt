@@ -18,13 +18,14 @@ use Rattle.c_judge.specs.Answers.{Answer, Known, Unknown, Broken, ◌then◌}
 use Rattle.c_scope.specs.Environment.{Environment, declare_local, enter}
 use Rattle.c_scope.specs.Declarators.{Shape, Object, Function, Parameter}
 use Rattle.c_scope.specs.Findings.{Finding, fine, nothing, ◌beside◌}
-use Rattle.c_body.specs.Locals.{with_local, local_type, after_local, after_names, after_declaration}
-use Rattle.c_body.specs.Bodies.{after}
+use Rattle.c_parts.specs.Locals.{with_local, local_type, after_local, after_names, after_declaration}
+use Rattle.c_parts.specs.Bodies.{after}
 use Rattle.c_body.specs.Stops.{inside_block}
 use Rattle.c_mentions.specs.Tags.{in_all, in_external, in_file_spec, in_declared, in_declarator, in_statement}
 use Rattle.c_file.specs.Files.{State, with_name, with_head, with_strings, with_definition, row_of, function_row, after_all, after_name, after_what, after_function, what, with_parameters, body_environment, behind_known, with_spec, Externals, AllExternals, Onward}
 use Rattle.c_linkage.specs.Names.{FileName}
-use Rattle.c_file.specs.Programs.{Told, Well, Lacks, Breaks, in_file, ◌before◌, incomplete, completed_by, at_first, next_file}
+use Rattle.c_file.specs.Programs.{Told, Well, Lacks, Breaks, in_file, ◌before◌, at_first, next_file}
+use Rattle.c_linkage.specs.Completed.{incomplete, completed_by}
 use Rattle.c_accepted.proofs.Completed.{IsSound, AreSound, Extends, Agree}
 use Rattle.c_accepted.proofs.Known.{never}
 use Rattle.c_accepted.proofs.Merged.{merged_sound, merged_count}

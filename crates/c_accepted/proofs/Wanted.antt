@@ -21,8 +21,9 @@ use Rattle.c_linkage.specs.declared.definitions.Manner.{Manner}
 use Rattle.c_linkage.specs.declared.definitions.Manner.TheVariants.{Body}
 use Rattle.c_linkage.specs.Names.{FileName, Defining, defines, is_defined, is_built_in, is_here}
 use Rattle.c_linkage.specs.FileNames.{AreConsistent}
-use Rattle.c_body.specs.Calls.{called_items}
-use Rattle.c_file.specs.Files.{State, called_all, wanting, manner_of, defining, with_name, with_head, with_strings, with_definition, row_of, function_row, after_all, after_name, after_what, after_function, what, with_spec, Externals}
+use Rattle.c_calls.specs.Calls.{called_items}
+use Rattle.c_file.specs.Files.{State, wanting, manner_of, defining, with_name, with_head, with_strings, with_definition, row_of, function_row, after_all, after_name, after_what, after_function, what, with_spec, Externals}
+use Rattle.c_linkage.specs.Wanted.{called_all}
 use Rattle.c_linkage.specs.Wanted.{Called}
 use Rattle.c_file.specs.Programs.{uncalled}
 use Rattle.c_linkage.specs.Bounds.{is_static_in}

@@ -11,8 +11,8 @@ use Rattle.c_judge.specs.declared.fault.Fault.TheVariants as fault
 use Rattle.c_judge.specs.Answers.{Known, Unknown, Broken}
 use Rattle.c_judge.specs.Pairs.{dropped}
 use Rattle.c_judge.specs.Elaboration.{site_of}
-use Rattle.c_body.specs.declared.blocks.Braces.{Braces}
-use Rattle.c_body.specs.declared.blocks.Inside.{Inside}
+use Rattle.c_parts.specs.declared.blocks.Braces.{Braces}
+use Rattle.c_parts.specs.declared.blocks.Inside.{Inside}
 use Rattle.c_body.specs.declared.body.Body.{Body}
 use Rattle.c_body.specs.declared.walk.Stop.{Stop as Reached}
 use Rattle.c_body.specs.declared.walk.Walk.{Walk}
@@ -23,13 +23,14 @@ use Rattle.c_scope.specs.Environment.{Environment, innermost}
 use Rattle.c_mentions.specs.Literals.{in_statement, texts}
 use Rattle.c_body.specs.Stops.{opening, stop, stops, stops_of}
 use Rattle.c_body.specs.Calls.{calls_in}
-use Rattle.c_body.specs.Bodies.{found, after, in_function}
+use Rattle.c_parts.specs.Bodies.{found, after, in_function}
 use Rattle.c_body.specs.Becoming.{Before, Holds, IsBlockOf}
 use Rattle.c_body.specs.Walks.{Walked, IsMade, before_of, name_of}
 use Rattle.c_body.specs.Walking.{IsBlock, IsBody, stop_of, walk_of}
-use Rattle.c_body.specs.PassingParts.{IsMadeOf}
-use Rattle.c_body.specs.Making as making
-use Rattle.c_body.specs.Blocks.{PassesInside, inside_of, block_of}
+use Rattle.c_parts.specs.PassingParts.{IsMadeOf}
+use Rattle.c_parts.specs.Making as making
+use Rattle.c_body.specs.Blocks.{PassesInside}
+use Rattle.c_parts.specs.Blocks.{inside_of, block_of}
 use Rattle.c_body.specs.Ending.{begins, reaches, IsTold}
 use Rattle.c_body.proofs.Forms.{block_made}
 

@@ -18,25 +18,28 @@ use Rattle.c_judge.specs.declared.fault.Fault.TheVariants as fault
 use Rattle.c_judge.specs.Elaboration.{site_of}
 use Rattle.c_judge.specs.Places.{place_of}
 use Rattle.c_judge.specs.Answers.{Known, Unknown, Broken}
-use Rattle.c_body.specs.declared.blocks.Inside.{Inside}
-use Rattle.c_body.specs.declared.heads.CheckedHead.{CheckedHead}
-use Rattle.c_body.specs.declared.heads.CheckedHead.TheVariants as made
-use Rattle.c_body.specs.declared.walk.Asking.{Asking}
-use Rattle.c_body.specs.declared.walk.Asking.TheVariants as asks
+use Rattle.c_parts.specs.declared.blocks.Inside.{Inside}
+use Rattle.c_parts.specs.declared.heads.CheckedHead.{CheckedHead}
+use Rattle.c_parts.specs.declared.heads.CheckedHead.TheVariants as made
+use Rattle.c_parts.specs.declared.asking.Asking.{Asking}
+use Rattle.c_parts.specs.declared.asking.Asking.TheVariants as asks
 use Rattle.c_scope.specs.Findings.{Finding, Fine, fine, ◌beside◌, holds}
 use Rattle.c_scope.specs.Environment.{Environment, enter, leave}
-use Rattle.c_body.specs.Locals.{after_declaration, declaration_found}
+use Rattle.c_parts.specs.Locals.{after_declaration, declaration_found}
 use Rattle.c_mentions.specs.Literals.{Literal, in_tree, in_part, in_head, in_local, in_statement}
 use Rattle.c_body.specs.Stops.{Stop, at_expression, at_part, at_locals, at_head, stops}
-use Rattle.c_body.specs.Calls.{called, called_part, called_locals, called_head, calls_in}
-use Rattle.c_body.specs.Bodies.{Around, after, around_of, differ, found, head_found, in_block, in_loop, inside, is_plain_block, label_found, labels_in, part, placed, statement_at}
-use Rattle.c_body.specs.Becoming.{Before, AreLocals, Becomes, Holds, IsBlockOf, IsHeaded, IsLabel, IsStop, IsStopOrNone, behind, past, past_part, row_list}
+use Rattle.c_body.specs.Calls.{called_locals, called_head, calls_in}
+use Rattle.c_calls.specs.Calls.{called, called_part}
+use Rattle.c_parts.specs.Bodies.{Around, after, around_of, differ, found, head_found, in_block, in_loop, inside, is_plain_block, label_found, labels_in, part, placed, statement_at}
+use Rattle.c_body.specs.Becoming.{Before, AreLocals, Becomes, Holds, IsBlockOf, IsHeaded, IsLabel, IsStop, IsStopOrNone, behind, past, past_part}
+use Rattle.c_parts.specs.Making.{row_list}
 use Rattle.c_body.specs.Walks.{Walked, Passes, IsMade, answered, before_of}
-use Rattle.c_body.specs.PassingParts.{both, IsMadeOf, Makes, MakesOf}
-use Rattle.c_body.specs.Heads.{IsHead, HasHead}
-use Rattle.c_body.specs.Making.{IsIf, IsIfElse, IsDo, IsBlock}
-use Rattle.c_body.specs.Blocks.{AddsLocals, AddsStatement}
-use Rattle.c_body.proofs.Beside.{beside_assoc}
+use Rattle.c_parts.specs.PassingParts.{both, IsMadeOf, Makes, MakesOf}
+use Rattle.c_body.specs.Heads.{IsHead}
+use Rattle.c_parts.specs.Heads.{HasHead}
+use Rattle.c_parts.specs.Making.{IsIf, IsIfElse, IsDo, IsBlock}
+use Rattle.c_parts.specs.Blocks.{AddsLocals, AddsStatement}
+use Rattle.c_parts.proofs.Beside.{beside_assoc}
 use Rattle.c_body.proofs.PassedParts.{Part, Goes, Same, with_part, checked, goes_on, stops_at, makes, makes_of, fails, nothing_behind, stays}
 
 -- ---- the parts

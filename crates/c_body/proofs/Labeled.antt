@@ -1,38 +1,20 @@
--- The labels of a block, and which of them come again.
-use Rattle.std.proofs.Common.{◌≡◌, ℕ, List, [], ◌∷◌, ◌++◌, ◌∙◌, refl, ap, sym, subst, Some, Ok, Err}
-use Rattle.std.proofs.lemmas.List.{append-nil, append_assoc}
-use Rattle.c_lex.specs.declared.token.Place.{Place}
-use Rattle.c_trees.specs.declared.declaration.Local.{Local}
-use Rattle.c_trees.specs.Statements.{StatementTree, Begun, Declares, Also, with_locals, with_statements}
+-- The value of a label.
+use Rattle.std.proofs.Common.{◌≡◌, ℕ, [], ◌∙◌, ap, sym, subst, Some, Ok, Err}
+use Rattle.std.proofs.lemmas.List.{append-nil}
 use Rattle.c_scope.specs.Environment.{Environment}
 use Rattle.c_scope.specs.Findings.{nothing, asked}
-use Rattle.c_body.specs.Bodies.{Label, labels_before, labels_in, label_found, start_of, value_in}
+use Rattle.c_parts.specs.Bodies.{label_found, start_of, value_in}
 use Rattle.c_scope.specs.Spelling.{is_number}
 use Rattle.c_judge.specs.declared.fault.Fault.{Fault}
 use Rattle.c_judge.specs.declared.fault.Fault.TheVariants as fault
 use Rattle.c_trees.specs.Expressions.{Tree}
 use Rattle.c_mentions.specs.Literals.{in_tree}
-use Rattle.c_body.specs.Calls.{called}
+use Rattle.c_calls.specs.Calls.{called}
 use Rattle.c_body.specs.Becoming.{IsLabel}
-use Rattle.c_body.specs.Labels.{IsLabelValue}
+use Rattle.c_parts.specs.Labels.{IsLabelValue}
 use Rattle.c_body.specs.Walks.{Walked, Passes}
-use Rattle.c_body.specs.Calls.{of_all}
 use Rattle.c_body.specs.Passing.{behind}
 use Rattle.c_body.proofs.Passed.{or_none}
-
-module _ (v : Environment) where
-  no_labels : (b : StatementTree) (ls : List Local) → labels_in v b ≡ [] → labels_in v (with_locals b ls) ≡ []
-  no_labels b [] h = h
-  no_labels b (l ∷ ls) h = no_labels (Declares b l) ls refl
-
-  labels_statements : (b : StatementTree) (ss : List StatementTree) (xs : List Label) → labels_in v b ≡ xs → labels_in v (with_statements b ss) ≡ xs ++ of_all (labels_before v) ss
-  labels_statements b [] xs h = h ∙ sym (append-nil xs)
-  labels_statements b (s ∷ ss) xs h = labels_statements (Also b s) ss (xs ++ labels_before v s) (ap (λ ys. ys ++ labels_before v s) h) ∙ append_assoc xs (labels_before v s) (of_all (labels_before v) ss)
-
-  pub labels_block : (at : Place) (ls : List Local) (ss : List StatementTree) → labels_in v (with_statements (with_locals (Begun at) ls) ss) ≡ of_all (labels_before v) ss
-  labels_block at ls ss = labels_statements (with_locals (Begun at) ls) ss [] (no_labels (Begun at) ls refl)
-
--- ---- the value of a label
 
 failed : (w u : Walked) (e : Tree) (f : Fault) → IsLabelValue w.here e (Err f) → Passes w (label_found w.here e) w.here [] (in_tree e) (called w.here e) (IsLabel w.here e) (Err f) u
 failed w u e (fault.Rule r at) h = h

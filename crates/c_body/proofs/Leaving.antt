@@ -14,8 +14,8 @@ use Rattle.c_scope.specs.declared.link.Link.{Link}
 use Rattle.c_scope.specs.declared.environment.Environment.{Environment as Here}
 use Rattle.c_scope.specs.Here.{environment_of}
 use Rattle.c_scope.specs.Table.{names_from, outermost, rows}
-use Rattle.c_body.specs.Locals.{local_type, local_name, with_local, after_local, after_names, after_declaration}
-use Rattle.c_body.specs.Bodies.{after}
+use Rattle.c_parts.specs.Locals.{local_type, local_name, with_local, after_local, after_names, after_declaration}
+use Rattle.c_parts.specs.Bodies.{after}
 use Rattle.c_scope.proofs.Hiding.{outermost_all, outermost_less}
 
 -- the second environment has the names of the first, and maybe more

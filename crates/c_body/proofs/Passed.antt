@@ -8,21 +8,22 @@ use Rattle.c_judge.specs.Answers.{Unknown, Broken}
 use Rattle.c_judge.specs.Judgement.{Judged}
 use Rattle.c_judge.specs.Judges.{Judges}
 use Rattle.c_judge.specs.Parts.{judged_of}
-use Rattle.c_body.specs.declared.walk.Asking.{Asking}
-use Rattle.c_body.specs.declared.walk.Asking.TheVariants as asks
+use Rattle.c_parts.specs.declared.asking.Asking.{Asking}
+use Rattle.c_parts.specs.declared.asking.Asking.TheVariants as asks
 use Rattle.c_scope.specs.Environment.{Environment, scope}
 use Rattle.c_scope.specs.Findings.{holds, asked_of}
 use Rattle.c_mentions.specs.Literals.{Literal, in_tree, number_at}
-use Rattle.c_body.specs.Calls.{called}
+use Rattle.c_calls.specs.Calls.{called}
 use Rattle.c_lex.specs.declared.token.Place.{Place}
 use Rattle.c_judge.specs.Places.{place_of}
 use Rattle.c_tree.specs.declared.typed.Pointed.{Pointed}
 use Rattle.c_body.specs.Stops.{Stop, stop, at_expression}
 use Rattle.c_body.specs.Becoming.{IsExpression, IsStop}
-use Rattle.c_body.specs.Bodies.{judged_in, start_of}
+use Rattle.c_parts.specs.Bodies.{judged_in, start_of}
 use Rattle.c_body.specs.Walks.{Walked, Passes, before_of, or_name, answered}
-use Rattle.c_body.specs.Passing.{PassesExpression, Notes, behind, answers, rule_of}
-use Rattle.c_body.proofs.Unnumbered.{unnumbered}
+use Rattle.c_body.specs.Passing.{PassesExpression, Notes, behind}
+use Rattle.c_parts.specs.Asked.{answers, rule_of}
+use Rattle.c_parts.proofs.Unnumbered.{unnumbered}
 
 pub or_none : (o : Option (List ℕ)) → or_name o None ≡ o
 or_none None = refl

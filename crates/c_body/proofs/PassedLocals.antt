@@ -20,15 +20,17 @@ use Rattle.c_scope.specs.Environment.{Environment, declare_local}
 use Rattle.c_scope.specs.Declarators.{Object, denoted, name_in}
 use Rattle.c_scope.specs.Findings.{Finding, Fine, ◌beside◌, holds}
 use Rattle.c_mentions.specs.Literals.{Literal, texts, in_all, in_part, in_value, in_declarator, in_declared}
-use Rattle.c_body.specs.Calls.{called_initial, called_declarator, called_local, called_locals}
+use Rattle.c_body.specs.Calls.{called_local, called_locals}
+use Rattle.c_calls.specs.Calls.{called_initial, called_declarator}
 use Rattle.c_body.specs.Stops.{Stop, at_initial, at_locals}
 use Rattle.c_body.specs.Becoming.{past, of_initial, IsInitial, AreLocals}
 use Rattle.c_lex.specs.declared.token.Place.{Place}
-use Rattle.c_body.specs.Locals.{initialized, local_type, local_found, with_local, after_local, after_names, names_found, initialized_or_not}
+use Rattle.c_parts.specs.Locals.{initialized, local_type, local_found, with_local, after_local, after_names, names_found, initialized_or_not}
 use Rattle.c_scope.specs.Spelling.{initial_at}
 use Rattle.c_body.specs.Walks.{Walked, Passes, IsMade, before_of, or_name, name_of}
-use Rattle.c_body.specs.PassingLocals.{IsLocal, PassesLocal, PassesLocals, with_made, before_rest, in_front}
-use Rattle.c_body.proofs.Beside.{nothing_beside}
+use Rattle.c_body.specs.PassingLocals.{IsLocal, PassesLocal, PassesLocals, before_rest, in_front}
+use Rattle.c_parts.specs.MadeLocals.{with_made}
+use Rattle.c_parts.proofs.Beside.{nothing_beside}
 use Rattle.c_body.proofs.Passed.{or_none}
 
 texts_both : (xs ys : List Literal) → texts (xs ++ ys) ≡ texts xs ++ texts ys

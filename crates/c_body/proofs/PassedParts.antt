@@ -9,7 +9,7 @@ use Rattle.c_mentions.specs.Literals.{Literal, texts}
 use Rattle.c_body.specs.Stops.{Stop}
 use Rattle.c_body.specs.Becoming.{Before, past}
 use Rattle.c_body.specs.Walks.{Walked, Passes, IsMade, before_of, or_name, name_of}
-use Rattle.c_body.specs.PassingParts.{both, both_or_fault, IsMadeOf, Makes, MakesOf, Fails}
+use Rattle.c_parts.specs.PassingParts.{both, both_or_fault, IsMadeOf, Makes, MakesOf, Fails}
 
 -- a part: what is found in it, what is declared behind it, its points, literals and calls, and what it becomes
 pub record Part (A : Type 0) : Type 1 where

@@ -12,14 +12,15 @@ use Rattle.c_tree.specs.declared.typed.Typed.{Typed}
 use Rattle.c_tree.specs.declared.typed.Site.{Site}
 use Rattle.c_tree.specs.declared.typed.Pointed.{Pointed}
 use Rattle.c_tree.specs.declared.typed.DeclaredLocal.{DeclaredLocal}
-use Rattle.c_tree.specs.declared.typed.Stmt.{Stmt, Row_of-Stmt, end_of-Stmt, more_of-Stmt, Held-Stmt-If-3, None', Some'}
+use Rattle.c_tree.specs.declared.typed.Stmt.{Stmt, Held-Stmt-If-3, None', Some'}
 use Rattle.c_tree.specs.declared.typed.Stmt.TheVariants as typed
 use Rattle.c_judge.specs.Elaboration.{site_of, Elaborates}
 use Rattle.c_judge.specs.Places.{place_of}
 use Rattle.c_scope.specs.Environment.{Environment, enter, scope}
 use Rattle.c_scope.specs.Declarators.{constant}
-use Rattle.c_body.specs.Locals.{after_local}
-use Rattle.c_body.specs.Bodies.{after, judged_in, value_in}
+use Rattle.c_parts.specs.Locals.{after_local}
+use Rattle.c_parts.specs.Bodies.{after, judged_in, value_in}
+use Rattle.c_parts.specs.Making.{row_list}
 use Rattle.c_mentions.specs.Literals as literals
 use Rattle.c_mentions.specs.Literals.{Literal, number_at}
 use Rattle.c_body.specs.Stops.{stops, at_initial, at_locals, at_head}
@@ -69,10 +70,6 @@ AreLocals l v c (d ∷ ds) (z ∷ zs) =
 AreLocals l v c _ _ = ⊥
 
 -- ---- statements
-
-abbrev pub row_list : {m : _} → Row_of-Stmt m → List Stmt
-row_list end_of-Stmt = []
-row_list (more_of-Stmt s rest) = s ∷ row_list rest
 
 abbrev pub behind : Environment → Before → StatementTree → Before
 behind v c s = past c (length (stops v s)) (literals.in_statement s)

@@ -1,15 +1,10 @@
-pub mod Locals
-pub mod Bodies
 pub mod Calls
 pub mod Stops
 pub mod Becoming
-pub mod PassingParts
 pub mod Heads
-pub mod Making
 pub mod Blocks
 pub mod Ending
 pub mod Walks
 pub mod Walking
-pub mod Labels
 pub mod Passing
 pub mod PassingLocals

@@ -1,39 +1,17 @@
 -- How a walk passes an expression, before anything is asked of it.
-use Rattle.std.specs.Prelude.{◌≡◌, ℕ, Bool, true, false, List, [], ◌∷◌, ◌++◌, Option, Some, None, Result, Ok, Err}
+use Rattle.std.specs.Prelude.{◌≡◌, ℕ, List, ◌++◌, Option, Some, None, Result, Ok, Err}
 use Rattle.c_trees.specs.Expressions.{Tree}
-use Rattle.c_typing.specs.Expressions.{Denoted, Function}
 use Rattle.c_judge.specs.declared.part.Part.{Part}
 use Rattle.c_judge.specs.declared.fault.Fault.{Fault}
 use Rattle.c_judge.specs.declared.fault.Fault.TheVariants as fault
 use Rattle.c_judge.specs.Answers.{Known, Unknown, Broken}
-use Rattle.c_judge.specs.Judgement.{Verdict, Judged}
+use Rattle.c_judge.specs.Judgement.{Verdict}
 use Rattle.c_judge.specs.Parts.{judged_of}
-use Rattle.c_typing.specs.Plain.{is_integer, is_scalar}
-use Rattle.c_typing.specs.Rules.{may_drop, value_of}
-use Rattle.c_body.specs.declared.walk.Asking.{Asking}
-use Rattle.c_body.specs.declared.walk.Asking.TheVariants as asks
 use Rattle.c_mentions.specs.Literals.{Literal, texts, in_tree}
 use Rattle.c_body.specs.Becoming.{IsExpression}
-use Rattle.c_body.specs.Bodies.{judged_in}
-use Rattle.c_body.specs.Calls.{called}
+use Rattle.c_parts.specs.Bodies.{judged_in}
+use Rattle.c_calls.specs.Calls.{called}
 use Rattle.c_body.specs.Walks.{Walked, before_of, or_name}
-
--- whether what a name means can be called, or it is not declared
-abbrev pub is_callable : Option Denoted → Bool
-is_callable None = true
-is_callable (Some (Function r ps)) = true
-is_callable _ = false
-
--- what an expression at a stopping point is asked, and the rule that it breaks
-abbrev pub answers : Asking → Judged → Bool
-answers asks.Tested j = is_scalar (value_of j.operand)
-answers asks.Selected j = is_integer (value_of j.operand)
-answers asks.Dropped j = may_drop j.operand
-
-abbrev pub rule_of : Asking → ℕ
-rule_of asks.Tested = 16
-rule_of asks.Selected = 17
-rule_of asks.Dropped = 22
 
 -- a walk with these literals and calls behind it
 abbrev pub behind : Walked → List Literal → List (List ℕ) → Walked

@@ -1,37 +1,17 @@
 -- How a walk passes the declaration of a local.
-use Rattle.std.specs.Prelude.{◌≡◌, ℕ, Bool, true, false, List, [], ◌∷◌, ◌++◌, Option, Some, None, Result, Ok, Err}
+use Rattle.std.specs.Prelude.{◌≡◌, Bool, List, ◌∷◌, ◌++◌, Option, Some, None, Result, Ok, Err}
 use Rattle.c_trees.specs.declared.expression.Spec.{Spec}
 use Rattle.c_trees.specs.declared.declaration.Declared.{Declared}
 use Rattle.c_trees.specs.declared.declaration.Local.{Local}
 use Rattle.c_tree.specs.declared.typed.DeclaredLocal.{DeclaredLocal}
-use Rattle.c_tree.specs.declared.types.CType.{CType}
-use Rattle.c_typing.specs.Plain.{plain}
-use Rattle.c_typing.specs.Declarations.{is_named}
-use Rattle.c_typing.specs.Expressions.{Denoted}
-use Rattle.c_judge.specs.Answers.{Known, Broken}
 use Rattle.c_judge.specs.declared.fault.Fault.{Fault}
-use Rattle.c_judge.specs.declared.fault.Fault.TheVariants as fault
-use Rattle.c_scope.specs.Environment.{Environment, declare_local}
+use Rattle.c_scope.specs.Environment.{Environment}
 use Rattle.c_mentions.specs.Literals.{in_all, in_declarator, in_declared}
 use Rattle.c_body.specs.Calls.{called_local, called_locals}
 use Rattle.c_body.specs.Stops.{at_initial, at_locals}
 use Rattle.c_body.specs.Becoming.{Before, past, IsInitial, AreLocals}
-use Rattle.c_body.specs.Locals.{local_type, after_local, local_found, after_names, names_found}
+use Rattle.c_parts.specs.Locals.{after_local, local_found, after_names, names_found}
 use Rattle.c_body.specs.Walks.{Walked, Passes, before_of}
-
--- the type of a local, or the rule that it breaks
-abbrev pub IsLocalType : Bool → Spec → Environment → Declared → Result CType Fault → Type 0
-IsLocalType r spec v d (Ok t) = local_type r spec v d ≡ Known (plain t)
-IsLocalType r spec v d (Err (fault.Rule n at)) = local_type r spec v d ≡ Broken n at
-IsLocalType r spec v d (Err (fault.Unknown name)) = ⊥
-IsLocalType r spec v d (Err fault.NoMemory) = Unit {0}
-
--- 5. A local is declared, or the block has one of its name.
-abbrev pub Declares : {A : Type 0} → Environment → List ℕ → (at : ℕ) → Denoted → Result A Fault → Environment → Type 0
-Declares v name at d (Ok x) w = (is_named v.block name ≡ false) × (w ≡ declare_local v name d)
-Declares v name at d (Err (fault.Rule r q)) w = (is_named v.block name ≡ true) × (r ≡ 5) × (q ≡ at)
-Declares v name at d (Err (fault.Unknown n)) w = ⊥
-Declares v name at d (Err fault.NoMemory) w = Unit {0}
 
 -- a local that a block declares, by its number
 abbrev pub IsLocal : Environment → Environment → Before → Declared → DeclaredLocal → Type 0
@@ -47,11 +27,6 @@ abbrev pub PassesLocals : Local → Walked → List Declared → Result (Option 
 PassesLocals l w ds x u =
     Passes w (names_found l.register l.spec w.here ds) (after_names l.register l.spec w.here ds) (at_locals l w.here ds) (in_all in_declared ds) (called_locals l w.here ds)
     (λ zs. AreLocals l w.here (before_of w) ds zs) x u
-
--- what is made so far, with one more
-abbrev pub with_made : {A : Type 0} → Option (List A) → Option A → Option (List A)
-with_made (Some xs) (Some z) = Some (xs ++ z ∷ [])
-with_made _ _ = None
 
 -- the rest, behind what is made so far
 abbrev pub before_rest : {A : Type 0} → Result (Option (List A)) Fault → Option (List A) → Result (Option (List A)) Fault

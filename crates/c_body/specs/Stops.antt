@@ -11,8 +11,8 @@ use Rattle.c_trees.specs.declared.statement.Head.{Head}
 use Rattle.c_trees.specs.declared.statement.Head.TheVariants as head
 use Rattle.c_judge.specs.Places.{place_of}
 use Rattle.c_scope.specs.Environment.{Environment, enter, innermost}
-use Rattle.c_body.specs.Locals.{after_local}
-use Rattle.c_body.specs.Bodies.{after}
+use Rattle.c_parts.specs.Locals.{after_local}
+use Rattle.c_parts.specs.Bodies.{after}
 
 pub record Stop : Type 0 where
   pub line : ℕ

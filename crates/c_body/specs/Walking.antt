@@ -19,7 +19,7 @@ use Rattle.c_mentions.specs.Literals.{in_statement, texts}
 use Rattle.c_body.specs.Stops as stops
 use Rattle.c_body.specs.Stops.{stops_of, inside_block}
 use Rattle.c_body.specs.Becoming.{Before, IsBodyOf}
-use Rattle.c_body.specs.Bodies.{found, after, in_function}
+use Rattle.c_parts.specs.Bodies.{found, after, in_function}
 use Rattle.c_body.specs.Calls.{calls_in}
 use Rattle.c_body.specs.Walks.{Walked}
 

@@ -4,14 +4,14 @@ use Rattle.c_trees.specs.Expressions.{Tree}
 use Rattle.c_judge.specs.declared.fault.Fault.{Fault}
 use Rattle.c_judge.specs.declared.fault.Fault.TheVariants as fault
 use Rattle.c_judge.specs.Answers.{Answer, Known, Unknown, Broken}
-use Rattle.c_body.specs.declared.walk.Asking.{Asking}
-use Rattle.c_body.specs.declared.walk.Asking.TheVariants as asks
+use Rattle.c_parts.specs.declared.asking.Asking.{Asking}
+use Rattle.c_parts.specs.declared.asking.Asking.TheVariants as asks
 use Rattle.c_scope.specs.Findings.{Finding}
 use Rattle.c_scope.specs.Environment.{Environment}
 use Rattle.c_mentions.specs.Literals.{Literal, texts}
 use Rattle.c_body.specs.Stops.{Stop}
 use Rattle.c_body.specs.Becoming.{Before}
-use Rattle.c_body.specs.Bodies.{tested, selected, dropped}
+use Rattle.c_parts.specs.Bodies.{tested, selected, dropped}
 
 -- `first` counts what stands before the function; `unknown` is the first name that is not declared
 pub record Walked : Type 0 where

@@ -2,18 +2,16 @@
 ghost use Rattle.std.specs.Prelude.{◌≡◌, true, None, IfOk, IfErr, OnOk, IsSome};
 ghost use Rattle.c_judge.specs.declared.fault.Fault.TheVariants.{NoMemory};
 ghost use Rattle.c_typing.specs.Plain.{plain};
-ghost use Rattle.c_body.specs.Bodies.{is_block};
+ghost use Rattle.c_parts.specs.Bodies.{is_block};
 ghost use Rattle.c_scope.specs.Here.{environment_of};
 ghost use Rattle.c_body.specs.Walking.{before_in, walk_of, IsBody};
 ghost use Rattle.c_body.specs.Ending.{begins, reaches, IsTold};
 
-use crate::around::in_function;
-use crate::blocks::braces_of;
-use crate::making::{self, kept};
 use crate::statements::in_braces;
 use crate::walk::{Counts, Stop, Walk};
 use c_judge::Fault;
 use c_lex::Place;
+use c_parts::{braces_of, in_function, kept};
 use c_scope::Environment;
 use c_tree::{CType, Stmt};
 use c_trees::statement::Statement;
@@ -55,7 +53,7 @@ pub fn check_body<'a>(
     };
     let ends = add_stop(&mut walk, braces.closing);
     match kept(inside, ends) {
-        Ok(inside) => Ok(ended(walk, making::block(braces.opening, inside, braces.closing))),
+        Ok(inside) => Ok(ended(walk, c_parts::block(braces.opening, inside, braces.closing))),
         Err(f) => Err(f),
     }
 }

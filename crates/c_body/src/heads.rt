@@ -1,40 +1,25 @@
 // What stands before the statement of a loop, a `switch` or a label.
-ghost use Rattle.std.specs.Prelude.{[], ◌≡◌, option_map};
+ghost use Rattle.std.specs.Prelude.{◌≡◌};
 ghost use Rattle.c_typing.specs.Plain.{Plain};
 ghost use Rattle.c_trees.specs.Statements.{StatementTree};
 ghost use Rattle.c_trees.specs.declared.statement.Head.TheVariants as head;
-ghost use Rattle.c_judge.specs.Elaboration.{site_of};
-ghost use Rattle.c_body.specs.declared.heads.CheckedHead.TheVariants as checked;
-ghost use Rattle.c_body.specs.Bodies.{Around as Surroundings, differ, is_plain_block, labels_in, statement_at};
-ghost use Rattle.c_scope.specs.Findings.{◌beside◌, holds};
-ghost use Rattle.c_scope.specs.Here.{environment_of};
-ghost use Rattle.c_body.specs.PassingParts.{Checks};
-ghost use Rattle.c_body.specs.Heads.{around_of, PassesHead};
+ghost use Rattle.c_parts.specs.Bodies.{Around as Surroundings};
+ghost use Rattle.c_parts.specs.Heads.{around_of};
+ghost use Rattle.c_body.specs.Heads.{PassesHead};
 ghost use Rattle.c_body.specs.Walks.{Walked};
 ghost use Rattle.c_body.specs.Walking.{walk_of};
 
-use crate::around::{Around, placed};
-use crate::blocks::{is_plain_block, statement_at};
-use crate::making::{kept, site_of, with_next};
-use crate::parts::{at_label, at_part_stop, at_stop, labels_differ};
-use crate::walk::{Asking, Walk};
+use crate::parts::{at_label, at_part_stop, at_stop};
+use crate::walk::Walk;
 use c_judge::Fault;
 use c_lex::Place;
-use c_scope::Environment;
-use c_tree::{Pointed, Site};
+use c_parts::{
+    Around, Asking, CheckedHead, checked_case, checked_for, checked_switch, checked_while,
+    is_switch_body, kept, placed, site_of, with_next,
+};
 use c_trees::expression::Expr;
 use c_trees::statement::Statement;
 use std::alloc::Global;
-
-/// What stands before the statement of a loop, a `switch` or a label, once it is checked.
-#[derive(Drop)]
-pub enum CheckedHead {
-    While(Site, Pointed),
-    For(Site, Option<Pointed>, Option<Pointed>, Option<Pointed>),
-    Switch(Site, Pointed),
-    Case(Site, u32),
-    Default(Site),
-}
 
 /// `while (e)`
 pub fn at_while<'a>(
@@ -49,16 +34,6 @@ pub fn at_while<'a>(
     match at_stop(alloc, walk, Asking::Tested, e) {
         Ok(q) => Ok(checked_while(at, q)),
         Err(f) => Err(f),
-    }
-}
-
-/// The head of a `while`, where its expression is there.
-fn checked_while(at: Place, q: Option<Pointed>) -> Option<CheckedHead>
-    ensures { result ≡ option_map (λ q. checked.While (site_of at) q) q }
-{
-    match q {
-        None => None,
-        Some(q) => Some(CheckedHead::While(site_of(at), q)),
     }
 }
 
@@ -90,19 +65,6 @@ pub fn at_for<'a>(
     }
 }
 
-/// The parts of a `for` that are there.
-type ForParts = ((Option<Pointed>, Option<Pointed>), Option<Pointed>);
-
-/// The head of a `for`, where its parts are there.
-fn checked_for(at: Place, parts: Option<ForParts>) -> Option<CheckedHead>
-    ensures { result ≡ option_map (λ p. checked.For (site_of at) p.0.0 p.0.1 p.1) parts }
-{
-    match parts {
-        None => None,
-        Some(((x, y), z)) => Some(CheckedHead::For(site_of(at), x, y, z)),
-    }
-}
-
 /// `switch (e)`, before this statement.
 pub fn at_switch<'a>(
     alloc: Global,
@@ -124,29 +86,6 @@ pub fn at_switch<'a>(
     }
 }
 
-/// What a `switch` asks of its body: a block without declarations, whose labels differ.
-fn is_switch_body<'a>(alloc: Global, here: &Environment<'a>, s: &'a Statement) -> Result<(), Fault>
-    ensures { Checks (holds (is_plain_block s.now) 18 (statement_at s.now) beside differ [] (labels_in (environment_of here.now) s.now)) result }
-{
-    if !is_plain_block(s) {
-        return Err(Fault::Rule {
-            rule: 18,
-            at: statement_at(s),
-        });
-    }
-    labels_differ(alloc, here, s)
-}
-
-/// The head of a `switch`, where its expression is there.
-fn checked_switch(at: Place, q: Option<Pointed>) -> Option<CheckedHead>
-    ensures { result ≡ option_map (λ q. checked.Switch (site_of at) q) q }
-{
-    match q {
-        None => None,
-        Some(q) => Some(CheckedHead::Switch(site_of(at), q)),
-    }
-}
-
 /// `case e:`
 pub fn at_case<'a>(
     alloc: Global,
@@ -165,16 +104,6 @@ pub fn at_case<'a>(
     match at_label(alloc, walk, e) {
         Ok(n) => Ok(checked_case(at, n)),
         Err(f) => Err(f),
-    }
-}
-
-/// The head of a `case`, where its value is there.
-fn checked_case(at: Place, n: Option<u32>) -> Option<CheckedHead>
-    ensures { result ≡ option_map (λ n. checked.Case (site_of at) n) n }
-{
-    match n {
-        None => None,
-        Some(n) => Some(CheckedHead::Case(site_of(at), n)),
     }
 }
 

@@ -1,53 +1,24 @@
 // The parts of statements: expressions at stopping points, labels and declarations.
 ghost use Rattle.std.specs.Prelude.{[], ◌∷◌, ◌≡◌};
 ghost use Rattle.c_typing.specs.Plain.{plain};
-ghost use Rattle.c_judge.specs.Judges.{Gives};
-ghost use Rattle.c_judge.specs.Elaboration.{site_of};
-ghost use Rattle.c_judge.specs.Parts.{judged_of};
-ghost use Rattle.c_scope.specs.Findings.{fine};
 ghost use Rattle.c_trees.specs.Statements as tree;
 ghost use Rattle.c_scope.specs.Here.{environment_of};
 ghost use Rattle.c_mentions.specs.Literals.{in_tree, in_part};
-ghost use Rattle.c_body.specs.Bodies.{part, returned, start_of, label_found, labels_in, differ};
-ghost use Rattle.c_body.specs.Calls.{called, called_part};
+ghost use Rattle.c_parts.specs.Bodies.{part, returned, label_found};
+ghost use Rattle.c_calls.specs.Calls.{called, called_part};
 ghost use Rattle.c_body.specs.Stops.{at_expression, at_part, stop};
 ghost use Rattle.c_body.specs.Becoming.{IsStop, IsStopOrNone, IsLabel, Becomes};
 ghost use Rattle.c_body.specs.Walks.{Passes, before_of, answered};
-ghost use Rattle.c_body.specs.Passing.{answers, rule_of};
 ghost use Rattle.c_body.specs.Walking.{walk_of};
 
-use crate::labels::{differ, label_value, labels_in};
 use crate::passing::{at_expression, gathered, point};
-use crate::walk::{Asking, Walk};
-use c_judge::{Fault, Part, converts, is_integer, is_scalar, is_void, may_drop, place_of, type_of};
+use crate::walk::Walk;
+use c_judge::{Fault, converts, is_void, place_of};
 use c_lex::Place;
-use c_scope::Environment;
-use c_tree::{CType, Pointed, Site, Stmt};
+use c_parts::{Asking, answers, label_value, no_result, pointed, returning, rule_of, site_of};
+use c_tree::{CType, Pointed, Stmt};
 use c_trees::expression::Expr;
-use c_trees::statement::Statement;
 use std::alloc::Global;
-
-/// Whether an expression is what it is asked.
-fn answers(asking: Asking, part: &Part) -> bool
-    ensures { result ≡ answers asking (judged_of part.now) }
-{
-    match asking {
-        Asking::Tested => is_scalar(type_of(part)),
-        Asking::Selected => is_integer(type_of(part)),
-        Asking::Dropped => may_drop(part),
-    }
-}
-
-/// The rule that an expression breaks which is not what it is asked.
-fn rule_of(asking: Asking) -> u8
-    ensures { result ≡ rule_of asking }
-{
-    match asking {
-        Asking::Tested => 16,
-        Asking::Selected => 17,
-        Asking::Dropped => 22,
-    }
-}
 
 /// An expression at a stopping point.
 pub fn at_stop<'a>(
@@ -74,16 +45,6 @@ pub fn at_stop<'a>(
         }
         Ok(None) => Ok(None),
         Err(f) => Err(f),
-    }
-}
-
-/// A part at a stopping point.
-pub fn pointed(point: u32, part: Part) -> Pointed
-    ensures { result ≡ record { point = point; e = part.typed.value } }
-{
-    Pointed {
-        point,
-        e: Box::into_inner(part.typed),
     }
 }
 
@@ -131,22 +92,12 @@ fn return_nothing<'a>(walk: &mut Walk<'a>, to: &CType, at: Place) -> Result<Opti
 {
     let point = point(walk, at)?;
     if is_void(to) {
-        Ok(Some(Stmt::Return(site(at), point, None)))
+        Ok(Some(Stmt::Return(site_of(at), point, None)))
     } else {
         Err(Fault::Rule {
             rule: 20,
             at: at.at,
         })
-    }
-}
-
-/// An expression that is no result of the function that it stands in.
-fn no_result(e: &Expr) -> Fault
-    ensures { result ≡ Fault.Rule 20 (start_of e.now) }
-{
-    Fault::Rule {
-        rule: 20,
-        at: place_of(e).at,
     }
 }
 
@@ -181,24 +132,6 @@ fn return_value<'a>(
     }
 }
 
-/// Where a statement begins.
-fn site(at: Place) -> Site
-    ensures { result ≡ site_of at }
-{
-    Site {
-        at: at.at,
-        line: at.line,
-        column: at.column,
-    }
-}
-
-/// `return` of a value, at its point.
-fn returning(at: Place, point: u32, part: Part) -> Stmt
-    ensures { result ≡ Stmt.Return (site_of at) point (Some part.typed.value) }
-{
-    Stmt::Return(site(at), point, Some(Box::into_inner(part.typed)))
-}
-
 /// The value of a label.
 pub fn at_label<'a>(alloc: Global, walk: &mut Walk<'a>, e: &'a Expr) -> Result<Option<u32>, Fault>
     ensures passes { Passes (walk_of walk.old) (label_found (environment_of walk.old.here) e.now) (environment_of walk.old.here) [] (in_tree e.now) (called (environment_of walk.old.here) e.now) (IsLabel (environment_of walk.old.here) e.now) result (walk_of walk.new) }
@@ -209,16 +142,4 @@ pub fn at_label<'a>(alloc: Global, walk: &mut Walk<'a>, e: &'a Expr) -> Result<O
         Ok(n) => Ok(Some(n)),
         Err(f) => Err(f),
     }
-}
-
-/// The labels of a `switch` with this body differ.
-pub fn labels_differ<'a>(
-    alloc: Global,
-    here: &Environment<'a>,
-    body: &'a Statement,
-) -> Result<(), Fault>
-    ensures { Gives (λ _. fine) (differ [] (labels_in (environment_of here.now) body.now)) result }
-{
-    let labels = labels_in(alloc, here, body)?;
-    differ(alloc, &labels)
 }

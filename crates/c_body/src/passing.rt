@@ -1,7 +1,7 @@
 // How a walk passes an expression: its string literals and its calls are gathered, and it is judged.
 ghost use Rattle.std.specs.Prelude.{◌≡◌, ◌+◌, ◌<◌, ◌^◌, [], ◌∷◌, ◌++◌, length, map, IfOk, OnOk, Some};
 ghost use Rattle.c_judge.specs.Judges.{Judges};
-ghost use Rattle.c_body.specs.Calls as calls;
+ghost use Rattle.c_calls.specs.Calls as calls;
 ghost use Rattle.c_scope.specs.Environment.{scope};
 ghost use Rattle.c_scope.specs.Here.{environment_of};
 ghost use Rattle.c_mentions.specs.Literals as literals;
@@ -12,8 +12,8 @@ ghost use Rattle.c_mentions.specs.Tags.{now};
 ghost use Rattle.c_body.specs.Walks.{before_of, or_name};
 ghost use Rattle.c_body.specs.Walking.{walk_of};
 
-use crate::calls::called;
 use crate::walk::{Stop, Walk};
+use c_calls::called;
 use c_judge::{Fault, Part, judge};
 use c_lex::Place;
 use c_mentions::{Literal, in_tree, literal_numbers};

@@ -4,23 +4,26 @@ ghost use Rattle.c_trees.specs.Statements as tree;
 ghost use Rattle.c_trees.specs.declared.statement.Head.{Head};
 ghost use Rattle.c_typing.specs.Plain.{Plain, plain};
 ghost use Rattle.c_judge.specs.Elaboration.{site_of};
-ghost use Rattle.c_body.specs.Bodies as bodies;
-ghost use Rattle.c_body.specs.Bodies.{Around as Surroundings};
-ghost use Rattle.c_body.specs.Blocks.{PassesStatement, PassesInside, inside_of, block_of};
-ghost use Rattle.c_body.specs.Heads.{around_of, PassesHead};
+ghost use Rattle.c_parts.specs.Bodies as bodies;
+ghost use Rattle.c_parts.specs.Bodies.{Around as Surroundings};
+ghost use Rattle.c_parts.specs.Blocks.{inside_of, block_of};
+ghost use Rattle.c_body.specs.Blocks.{PassesStatement, PassesInside};
+ghost use Rattle.c_parts.specs.Heads.{around_of};
+ghost use Rattle.c_body.specs.Heads.{PassesHead};
 ghost use Rattle.c_body.specs.Walks.{Walked};
 ghost use Rattle.c_body.specs.Walking.{walk_of};
 
-use crate::around::{Around, in_block, in_branch, in_loop, in_switch};
-use crate::blocks::{Braces, Inside, declarations, with_statement};
-use crate::heads::{CheckedHead, at_case, at_default, at_for, at_switch, at_while};
-use crate::making::{
-    alternative, block, conditional, evaluated, repeated, site_of, with_head, with_next,
-};
+use crate::blocks::declarations;
+use crate::heads::{at_case, at_default, at_for, at_switch, at_while};
 use crate::parts::{at_return, at_stop};
-use crate::walk::{Asking, Walk};
+use crate::walk::Walk;
 use c_judge::{Fault, place_of};
 use c_lex::Place;
+use c_parts::{
+    Around, Asking, Braces, CheckedHead, Inside, alternative, block, conditional, evaluated,
+    in_block, in_branch, in_loop, in_switch, repeated, site_of, with_head, with_next,
+    with_statement,
+};
 use c_tree::{CType, Stmt};
 use c_trees::expression::Expr;
 use c_trees::statement::{Statement, StatementNode};

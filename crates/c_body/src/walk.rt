@@ -18,14 +18,6 @@ pub struct Counts {
     pub strings: u32,
 }
 
-/// What an expression at a stopping point is asked: whether it can be tested, can select among labels, or may be dropped.
-#[derive(Clone, Copy, Debug, PartialEq, Eq)]
-pub enum Asking {
-    Tested,
-    Selected,
-    Dropped,
-}
-
 /// A walk through the body of a function: what is declared where it stands; what it has come by, in the order of the source; and the first name
 /// that is not declared. `first` counts what stands before the function.
 #[derive(Drop)]

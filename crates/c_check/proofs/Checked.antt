@@ -10,7 +10,8 @@ use Rattle.c_check.specs.declared.faults.CheckFault.{CheckFault}
 use Rattle.c_check.specs.declared.faults.CheckFault.TheVariants as code
 use Rattle.c_linkage.specs.Names.{twice}
 use Rattle.c_file.specs.Files.{State}
-use Rattle.c_file.specs.Programs.{any, many, Told, Well, Lacks, Breaks, Fault, Arguments, Rule, Twice, Undefined, NoMain, has_main, uncalled, Faults, FaultsAs, AllFiles, at_first, ◌before◌, late_found, first_fault, behind_rules}
+use Rattle.c_file.specs.Programs.{Told, Well, Lacks, Breaks, Fault, Arguments, Rule, Twice, Undefined, NoMain, has_main, uncalled, Faults, FaultsAs, AllFiles, at_first, ◌before◌, late_found, first_fault, behind_rules}
+use Rattle.c_linkage.specs.Parameters.{any, many}
 use Rattle.c_linkage.specs.Bounds.{or_name}
 use Rattle.c_linkage.specs.FileTags.{tags_of, externals_of}
 use Rattle.c_file.specs.Standing.{Stands, told, LooksThrough}

@@ -6,7 +6,8 @@ use Rattle.c_linkage.specs.declared.state.State.{State as Standing}
 use Rattle.c_check.specs.declared.faults.CheckFault.{CheckFault}
 use Rattle.c_check.specs.declared.faults.CheckFault.TheVariants as code
 use Rattle.c_file.specs.Files.{State}
-use Rattle.c_file.specs.Programs.{any, many, Fault, Arguments, Rule, Twice, Undefined, NoMain, Faults, Well, AllFiles, at_first, ◌before◌, late_found, first_fault}
+use Rattle.c_file.specs.Programs.{Fault, Arguments, Rule, Twice, Undefined, NoMain, Faults, Well, AllFiles, at_first, ◌before◌, late_found, first_fault}
+use Rattle.c_linkage.specs.Parameters.{any, many}
 use Rattle.c_linkage.specs.FileTags.{tags_of}
 use Rattle.c_file.specs.Made.{HasRows, room}
 use Rattle.c_file.specs.Standing.{Stands, told}

@@ -3,7 +3,6 @@
 
 mod faults;
 mod object_types;
-mod parameters;
 mod program;
 mod tables;
 

@@ -1,15 +1,15 @@
 // The checked program of some files.
 ghost use Rattle.std.specs.Prelude.{◌≡◌, map, length};
-ghost use Rattle.c_file.specs.Programs.{any, many};
+ghost use Rattle.c_linkage.specs.Parameters.{any, many};
 ghost use Rattle.c_linkage.specs.FileTags.{externals_of};
 ghost use Rattle.c_check.specs.Faulty.{Checks, IsStanding};
 ghost use Rattle.c_check.specs.Tables.{IsMade, IsFinished, refused_by};
 
 use crate::faults::{CheckFault, fault_behind};
-use crate::parameters::any_many;
 use crate::tables::{Tables, rows_of};
 use c_file::all_files;
 use c_linkage::{FileFault, State};
+use c_rows::any_many;
 use c_tree::Program;
 use c_trees::unit::Unit;
 use ldb_words::{Many, Text};

@@ -17,10 +17,11 @@ use Rattle.c_file.specs.declared.functions.Heading.{Heading}
 use Rattle.c_file.specs.declared.functions.Walked.{Walked}
 use Rattle.c_linkage.specs.declared.state.State.{State as Standing}
 use Rattle.c_body.specs.Becoming.{Before, IsBodyOf}
-use Rattle.c_body.specs.Bodies.{after, found, in_function}
+use Rattle.c_parts.specs.Bodies.{after, found, in_function}
 use Rattle.c_scope.specs.Declarators.{Parameter}
 use Rattle.c_scope.specs.Environment.{Environment, enter, leave}
-use Rattle.c_file.specs.Files.{State, Bodied, called_all}
+use Rattle.c_file.specs.Files.{State, Bodied}
+use Rattle.c_linkage.specs.Wanted.{called_all}
 use Rattle.c_scope.specs.Findings.{Finding, Fine, fine, nothing, ◌beside◌}
 use Rattle.c_scope.specs.Here.{environment_of}
 use Rattle.c_file.specs.Made as made

@@ -17,13 +17,13 @@ use Rattle.c_judge.specs.Judges.{Gives, IsFault}
 use Rattle.c_file.specs.declared.functions.Heading.{Heading}
 use Rattle.c_scope.specs.declared.shapes.Shape.{Shape as CodeShape}
 use Rattle.c_linkage.specs.declared.state.State.{State as Standing}
-use Rattle.c_body.specs.Bodies.{after, found, in_function}
+use Rattle.c_parts.specs.Bodies.{after, found, in_function}
 use Rattle.c_scope.specs.Declarators.{Shape, Parameter, Object, Function, name_in, shape}
 use Rattle.c_scope.specs.Environment.{Environment, enter}
 use Rattle.c_file.specs.Files.{State, Bodied, Externals, with_spec, all_found, after_all, function_row, function_found, after_function, with_head, are_named}
 use Rattle.c_linkage.specs.Types.{is_static}
 use Rattle.c_struct.specs.Specifies.{Specifies}
-use Rattle.c_body.specs.Bodies.{is_block}
+use Rattle.c_parts.specs.Bodies.{is_block}
 use Rattle.c_scope.specs.Findings.{Finding, Fine, fine, nothing, holds, ◌beside◌}
 use Rattle.c_scope.specs.Here.{environment_of}
 use Rattle.c_file.specs.Made as made

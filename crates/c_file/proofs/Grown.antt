@@ -8,8 +8,8 @@ use Rattle.c_typing.specs.Expressions as typing
 use Rattle.c_judge.specs.Answers.{Answer, Known, Unknown, Broken}
 use Rattle.c_scope.specs.Environment.{Environment, Row, Visible, declare_local, enter, leave}
 use Rattle.c_scope.specs.Declarators.{Parameter}
-use Rattle.c_body.specs.Locals.{with_local, local_type, local_name, after_local, after_names, after_declaration}
-use Rattle.c_body.specs.Bodies.{after}
+use Rattle.c_parts.specs.Locals.{with_local, local_type, local_name, after_local, after_names, after_declaration}
+use Rattle.c_parts.specs.Bodies.{after}
 use Rattle.c_file.specs.Files.{with_parameters, are_named}
 
 abbrev pub IsLocalRow : Row → Type 0

@@ -12,7 +12,8 @@ use Rattle.c_file.specs.Files.{State, Externals, AllExternals}
 use Rattle.c_scope.specs.Findings.{Finding, nothing, ◌beside◌}
 use Rattle.c_file.specs.Looked as looked
 use Rattle.c_file.specs.Looked.{Starts, Follows, IsAtFile, Looks}
-use Rattle.c_file.specs.Programs.{Told, Well, Lacks, Breaks, in_file, ◌before◌, AllFiles, at_first, next_file, built_ins}
+use Rattle.c_file.specs.Programs.{Told, Well, Lacks, Breaks, in_file, ◌before◌, AllFiles, at_first, next_file}
+use Rattle.c_linkage.specs.BuiltIns.{built_ins}
 use Rattle.c_linkage.specs.FileTags.{tags_of}
 use Rattle.c_file.specs.Progress.{so_far, found_so_far, IsSoFar, Onto, GoesOn}
 use Rattle.c_file.specs.Standing.{Stands, AreFunctions, told, LooksThrough}

@@ -11,4 +11,3 @@ mod WalkedBodies
 mod NextFiles
 mod AddedBodies
 mod HeldExternals
-mod RowNumbers

@@ -21,7 +21,7 @@ use Rattle.c_file.specs.Files.{function_row, with_head, with_declarator, State, 
 use Rattle.c_linkage.specs.Types.{is_static, standing, object_standing, object_type}
 use Rattle.c_scope.specs.Findings.{Finding, Fine, fine, nothing, ◌beside◌}
 use Rattle.c_initial.specs.Initials.{Late, late_in, initial_found}
-use Rattle.c_body.specs.Calls.{called_items}
+use Rattle.c_calls.specs.Calls.{called_items}
 use Rattle.c_mentions.specs.Literals.{in_declarator, texts}
 use Rattle.c_linkage.specs.Names.{FileName, name_found}
 use Rattle.c_file.specs.Progress.{so_far, found_so_far, KeepsFunctions, Turns, Gains, Fails, Adds, with_given}

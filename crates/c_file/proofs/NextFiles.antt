@@ -13,7 +13,9 @@ use Rattle.c_scope.specs.Findings.{Finding, nothing, ◌beside◌}
 use Rattle.c_file.specs.Looked.{Follows, IsAtFile}
 use Rattle.c_file.specs.Made.{all_points}
 use Rattle.c_linkage.specs.Names.{AreWithin}
-use Rattle.c_file.specs.Programs.{built_ins, incomplete, next_file}
+use Rattle.c_file.specs.Programs.{next_file}
+use Rattle.c_linkage.specs.BuiltIns.{built_ins}
+use Rattle.c_linkage.specs.Completed.{incomplete}
 use Rattle.c_file.specs.Progress.{so_far, found_so_far, IsSoFar, Onto}
 use Rattle.c_file.specs.Standing.{Stands, AreFunctions}
 use Rattle.c_body.proofs.Leaving.{outermost_behind}

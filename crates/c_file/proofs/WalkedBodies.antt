@@ -10,7 +10,7 @@ use Rattle.c_scope.specs.declared.environment.Environment.{Environment as Here}
 use Rattle.c_file.specs.declared.functions.Walked.{Walked}
 use Rattle.c_scope.specs.declared.table.Mark.{Mark}
 use Rattle.c_body.specs.Becoming.{Before}
-use Rattle.c_body.specs.Bodies.{after, found, in_function}
+use Rattle.c_parts.specs.Bodies.{after, found, in_function}
 use Rattle.c_scope.specs.Declarators.{Parameter}
 use Rattle.c_scope.specs.Environment.{Environment, Row, Visible, enter, leave}
 use Rattle.c_file.specs.Files.{State, are_named, with_parameters}

@@ -22,8 +22,9 @@ use Rattle.c_typing.specs.Expressions.{Denoted}
 use Rattle.c_judge.specs.Answers.{Answer, Known, Unknown, Broken, ◌then◌}
 use Rattle.c_judge.specs.Judgement.{spec_type}
 use Rattle.c_scope.specs.Findings.{Finding, nothing, ◌beside◌, holds}
-use Rattle.c_scope.specs.Environment.{Environment, declare_global, declare_local, enter, leave, scope_of, struct_of, Visible, number_of}
-use Rattle.c_body.specs.Calls.{calls_in, called_declarator, called_items, called_spec}
+use Rattle.c_scope.specs.Environment.{Environment, declare_global, declare_local, enter, leave, scope_of, struct_of}
+use Rattle.c_body.specs.Calls.{calls_in}
+use Rattle.c_calls.specs.Calls.{called_declarator, called_items, called_spec}
 use Rattle.c_mentions.specs.Literals.{in_declarator, in_file_spec, in_statement, texts}
 use Rattle.c_body.specs.Stops.{inside_block, stops_of}
 use Rattle.c_body.specs.Becoming.{Before}
@@ -34,9 +35,9 @@ use Rattle.c_linkage.specs.declared.definitions.Manner.{Manner}
 use Rattle.c_linkage.specs.declared.definitions.Manner.TheVariants.{Body, Initialized, Tentative}
 use Rattle.c_linkage.specs.Names.{FileName, Defining, name_found, told_before, is_built_in}
 use Rattle.c_linkage.specs.Types.{is_static, standing, type_or}
-use Rattle.c_linkage.specs.Wanted.{Called, Awaited, Started}
+use Rattle.c_linkage.specs.Wanted.{Called, Awaited, Started, called_all}
 use Rattle.c_initial.specs.Initials.{Late, late_in, initial_found}
-use Rattle.c_body.specs.Bodies.{found, in_function, after, is_block}
+use Rattle.c_parts.specs.Bodies.{found, in_function, after, is_block}
 use Rattle.c_struct.specs.Specifies.{Specifies}
 
 -- a function with a body: what is declared where its body begins, its block, and how many points and strings stand before it
@@ -94,19 +95,6 @@ wanting cs f None d = cs
 abbrev pub awaited : ℕ → List Late → List Awaited
 awaited u [] = []
 awaited u (l ∷ ls) = record { unit = u; place = l } ∷ awaited u ls
-
-abbrev pub is_there : Option ℕ → Bool
-is_there None = false
-is_there (Some n) = true
-
--- a name is visible among these
-abbrev pub is_visible : List Visible → List ℕ → Bool
-is_visible vs name = is_there (number_of vs name)
-
--- names that have to be defined, where these are visible at file scope
-abbrev pub called_all : ℕ → List Visible → List (List ℕ) → List Called
-called_all u vs [] = []
-called_all u vs (n ∷ ns) = record { unit = u; name = n; declared = is_visible vs n } ∷ called_all u vs ns
 
 -- the strings in a declarator, and the names in it that have to be defined
 abbrev pub with_declarator : State → DeclaratorTree → State

@@ -12,16 +12,10 @@ use Rattle.c_scope.specs.Environment.{Visible}
 use Rattle.c_file.specs.Files.{State, Bodied, AllExternals}
 use Rattle.c_scope.specs.Findings.{Finding, ◌beside◌}
 use Rattle.c_scope.specs.Here.{environment_of}
-use Rattle.c_file.specs.Programs.{built_ins, built_in_rows, at_first, next_file}
+use Rattle.c_linkage.specs.BuiltIns.{built_ins}
+use Rattle.c_file.specs.Programs.{at_first, next_file}
 use Rattle.c_file.specs.Progress.{so_far, found_so_far, KeepsFunctions}
 use Rattle.c_file.specs.Standing.{Stands}
-use Rattle.c_scope.specs.Table.{Names, rows, names_from}
-
--- the built-ins are declared, outside of the block that begins
-pub record HasBuiltIns (t : Names) : Type 0 where
-  pub names : rows t.symbols t.parameters t.links ≡ built_in_rows
-  pub visible : t.visible ≡ built_ins
-  pub block : names_from t.start t.visible ≡ []
 
 abbrev pub IsFirst : List (List ℕ) → Here → Type 0
 IsFirst tags e = environment_of e ≡ (at_first tags).here

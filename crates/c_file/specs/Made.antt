@@ -18,7 +18,7 @@ use Rattle.c_typing.specs.Values.{size_of}
 use Rattle.c_typing.specs.Expressions.{Denoted, Object, Function, Hidden}
 use Rattle.c_typing.specs.Programs.{numbers}
 use Rattle.c_scope.specs.Environment.{Environment, Row, enter}
-use Rattle.c_body.specs.Bodies.{after}
+use Rattle.c_parts.specs.Bodies.{after}
 use Rattle.c_body.specs.Stops.{Stop, stops_of, inside_block}
 use Rattle.c_body.specs.Becoming.{Before, IsBodyOf}
 use Rattle.c_linkage.specs.Names.{FileName, Defining, is_same, composite}

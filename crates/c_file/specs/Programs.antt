@@ -1,101 +1,21 @@
 -- What is found wrong with a program of some files (C90 5.1, 6.7), in the order in which faults are told.
-use Rattle.std.specs.Prelude.{◌≡◌, ℕ, zero, suc, ◌+◌, Bool, true, false, not, ◌&&◌, ◌||◌, nat_le, nat_lt, ◌==◌, if◌then◌else◌, List, [], ◌∷◌, ◌++◌, map, length, Option, Some, None, codes}
-use Rattle.c_trees.specs.Declarators.{DeclaratorTree, Name, Parens, Pointers, Array, Function, Taking, Named, Unnamed}
-use Rattle.c_trees.specs.declared.declaration.Declared.{Declared}
-use Rattle.c_trees.specs.declared.declaration.FileSpec.{FileSpec}
-use Rattle.c_trees.specs.declared.declaration.FileSpec.TheVariants as file
-use Rattle.c_trees.specs.declared.declaration.Local.{Local}
-use Rattle.c_trees.specs.declared.declaration.MemberPart.{MemberPart}
-use Rattle.c_trees.specs.declared.declaration.MemberPart.TheVariants.{Opens, Row, Closes}
-use Rattle.c_trees.specs.Statements.{StatementTree, Declares, Also, Closed, If, IfElse, Headed, Do}
+use Rattle.std.specs.Prelude.{◌≡◌, ℕ, zero, suc, ◌+◌, Bool, true, false, not, ◌&&◌, ◌||◌, nat_le, ◌==◌, if◌then◌else◌, List, [], ◌∷◌, ◌++◌, map, length, Option, Some, None, codes}
 use Rattle.c_trees.specs.declared.unit.External.{External}
-use Rattle.c_trees.specs.declared.unit.External.TheVariants.{Declaration, Definition}
-use Rattle.c_tree.specs.declared.types.StructDef.{StructDef}
-use Rattle.c_typing.specs.Plain.{Plain, Array, is_empty}
 use Rattle.c_typing.specs.Expressions as typing
 use Rattle.c_typing.specs.Expressions.{Denoted}
-use Rattle.c_typing.specs.Declarations.{built_in}
 use Rattle.c_judge.specs.Answers.{Answer, Known, Unknown, Broken, ◌then◌}
 use Rattle.c_scope.specs.Findings.{Finding, holds}
-use Rattle.c_scope.specs.Environment.{Environment, Row as NameRow, Visible}
+use Rattle.c_scope.specs.Environment.{Environment}
 use Rattle.c_linkage.specs.Names.{FileName, Defining, is_defined, twice, is_built_in}
 use Rattle.c_linkage.specs.FileTags.{tags_of}
+use Rattle.c_linkage.specs.Parameters.{any, many}
+use Rattle.c_linkage.specs.BuiltIns.{built_ins, built_in_rows}
+use Rattle.c_linkage.specs.Completed.{incomplete, completed_by}
 use Rattle.c_linkage.specs.Bounds.{greatest_bound, is_static_in, or_name}
 use Rattle.c_file.specs.Files.{State, AllExternals, Onward}
 use Rattle.c_linkage.specs.Wanted.{Called, Awaited}
 
--- ---- the greatest number of parameters
-
-abbrev pub any : {A : Type 0} → (A → Bool) → List A → Bool
-any f [] = false
-any f (x ∷ xs) = f x || any f xs
-
-abbrev pub parameters_of : DeclaratorTree → ℕ
-parameters_of (Taking d p) = suc (parameters_of d)
-parameters_of _ = 0
-
--- a declarator has more than 16 parameters, or one in it has
-abbrev pub takes_many : DeclaratorTree → Bool
-takes_many (Name _ _) = false
-takes_many (Parens _ d) = takes_many d
-takes_many (Pointers _ _ d) = takes_many d
-takes_many (Array _ d _) = takes_many d
-takes_many (Function _ d) = takes_many d
-takes_many (Taking d p) = takes_many d || takes_many p || nat_lt 16 (suc (parameters_of d))
-takes_many (Named _ _ _ d) = takes_many d
-takes_many (Unnamed _ _ _) = false
-
-abbrev pub many_in : Declared → Bool
-many_in d = takes_many d.declarator
-
-abbrev pub many_in_local : Local → Bool
-many_in_local l = any many_in l.names
-
-abbrev pub many_below : StatementTree → Bool
-many_below (Declares b l) = many_below b || many_in_local l
-many_below (Also b s) = many_below b || many_below s
-many_below (Closed b _) = many_below b
-many_below (If _ _ s) = many_below s
-many_below (IfElse _ _ s r) = many_below s || many_below r
-many_below (Headed _ s) = many_below s
-many_below (Do _ s _) = many_below s
-many_below _ = false
-
-abbrev pub many_in_part : MemberPart → Bool
-many_in_part (Opens _ _) = false
-many_in_part (Row _ _ ds) = any takes_many ds
-many_in_part (Closes ds) = any takes_many ds
-
-abbrev pub many_in_spec : FileSpec → Bool
-many_in_spec (file.Named s) = false
-many_in_spec (file.Members ps) = any many_in_part ps
-
-abbrev pub many : External → Bool
-many (Declaration h) = many_in_spec h.spec || any many_in h.names
-many (Definition h x) = many_in_spec h.spec || takes_many h.declarator || many_below x
-
 -- ---- files
-
--- the built-ins are declared before each file
-abbrev pub built_ins : List Visible
-built_ins = record { name = codes "exit"; number = 2 } ∷ record { name = codes "putchar"; number = 1 } ∷ record { name = codes "getchar"; number = 0 } ∷ []
-
-abbrev built_in_row : List ℕ → Option ℕ → NameRow
-built_in_row name up = record { name = name; denoted = built_in name; up = up; unit = 0; local = None }
-
-abbrev pub built_in_rows : List NameRow
-built_in_rows = built_in_row (codes "getchar") None ∷ built_in_row (codes "putchar") (Some 0) ∷ built_in_row (codes "exit") (Some 1) ∷ []
-
-abbrev pub incomplete : List ℕ → StructDef
-incomplete tag = record { tag = tag; size = 0; members = [] }
-
--- the structs as either of two lists completes them
-abbrev pub completed_one : StructDef → StructDef → StructDef
-completed_one d e = if is_empty d.members then e else d
-
-abbrev pub completed_by : List StructDef → List StructDef → List StructDef
-completed_by (d ∷ ds) (e ∷ es) = completed_one d e ∷ completed_by ds es
-completed_by _ _ = []
 
 -- what is found in some files: as in one, with the file in which a rule is broken
 pub data Told : Type 0 where

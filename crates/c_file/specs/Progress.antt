@@ -23,7 +23,7 @@ use Rattle.c_initial.specs.Begins.{Begin}
 use Rattle.c_body.specs.Stops.{Stop}
 use Rattle.c_linkage.specs.declared.definitions.Manner.TheVariants.{Initialized}
 use Rattle.c_file.specs.Standing.{Stands}
-use Rattle.c_linkage.specs.Wanted.{called, awaited, started}
+use Rattle.c_linkage.specs.Wanted.{called, called_all, awaited, started}
 
 -- the program so far, where these are its functions with bodies
 abbrev pub so_far : Standing → List Bodied → State
@@ -71,7 +71,7 @@ Adds found after s (Err e) t = Fails found s e
 -- an object is defined with what its initializer gives
 abbrev pub with_given : Bool → List ℕ → List Late → List Begin → List (List ℕ) → List (List ℕ) → State → State
 with_given is_static name ls begins strings names p = record p {
-  calls = p.calls ++ files.called_all p.here.unit p.here.visible names;
+  calls = p.calls ++ called_all p.here.unit p.here.visible names;
   late = p.late ++ files.awaited p.here.unit ls;
   starts = p.starts ++ record { name = name; unit = p.here.unit; begins = begins } ∷ [];
   strings = p.strings ++ strings;

@@ -20,11 +20,12 @@ use Rattle.c_file.specs.declared.functions.Walked.{Walked}
 use Rattle.c_linkage.specs.declared.state.State.{State as Standing}
 use Rattle.c_scope.specs.declared.table.Mark.{Mark}
 use Rattle.c_body.specs.Becoming.{Before}
-use Rattle.c_body.specs.Bodies.{after, found, in_function}
+use Rattle.c_parts.specs.Bodies.{after, found, in_function}
 use Rattle.c_body.specs.Calls.{calls_in}
 use Rattle.c_scope.specs.Declarators.{Parameter, Shape}
 use Rattle.c_scope.specs.Environment.{Environment, enter, leave}
-use Rattle.c_file.specs.Files.{State, Bodied, with_parameters, called_all, function_found, after_function}
+use Rattle.c_file.specs.Files.{State, Bodied, with_parameters, function_found, after_function}
+use Rattle.c_linkage.specs.Wanted.{called_all}
 use Rattle.c_scope.specs.Findings.{Finding, Fine, ◌beside◌}
 use Rattle.c_scope.specs.Here.{environment_of}
 use Rattle.c_mentions.specs.Literals.{in_statement, texts}

@@ -17,15 +17,14 @@ ghost use Rattle.c_scope.specs.Shapes.{parameter_of, shape_of};
 ghost use Rattle.c_linkage.specs.Wanted.{awaited};
 ghost use Rattle.c_initial.specs.Starts.{late_place, begins_in};
 ghost use Rattle.c_mentions.specs.Tags.{now};
-ghost use Rattle.c_body.specs.Calls.{called_items};
+ghost use Rattle.c_calls.specs.Calls.{called_items};
 ghost use Rattle.c_scope.specs.Here.{environment_of, meaning_of};
 
-use crate::function_rows::{add_declarator_calls, add_initial_calls};
 use c_initial::{Initialized, LatePlace, initial};
 use c_judge::{Fault, copied};
 use c_linkage::{
-    Awaited, Called, Definition, FileName, Manner, Started, State, is_static, object_standing,
-    object_type, parameter_types,
+    Awaited, Called, Definition, FileName, Manner, Started, State, add_declarator_calls,
+    add_initial_calls, is_static, object_standing, object_type, parameter_types,
 };
 use c_mentions::strings_in_declarator;
 use c_scope::{Meaning, Parameter, Shape, declarator_place, name_in, shape};

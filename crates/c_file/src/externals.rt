@@ -4,10 +4,9 @@ ghost use Rattle.c_file.specs.Progress.{Begins, GoesOn};
 ghost use Rattle.c_trees.specs.declared.unit.External.TheVariants as external;
 
 use crate::declarations::all_declared;
-use crate::function_rows::add_spec_calls;
 use crate::functions::function;
 use c_judge::Fault;
-use c_linkage::State;
+use c_linkage::{State, add_spec_calls};
 use c_mentions::strings_in_spec;
 use c_scope::{Shape, shape};
 use c_struct::specified;

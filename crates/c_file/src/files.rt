@@ -1,109 +1,19 @@
 // The files of a program in order.
-ghost use Rattle.std.specs.Prelude.{◌≡◌, ◌∷◌, [], map, IfOk, OnOk, None, true, false};
-ghost use Rattle.c_scope.specs.Environment.{innermost};
-ghost use Rattle.c_file.specs.Looked.{HasBuiltIns, IsFirst, Starts, Follows, Looks, in_file};
-ghost use Rattle.c_file.specs.Programs.{incomplete, completed_one, completed_by};
+ghost use Rattle.std.specs.Prelude.{◌≡◌, map, IfOk};
+ghost use Rattle.c_file.specs.Looked.{IsFirst, Starts, Follows, Looks, in_file};
 ghost use Rattle.c_linkage.specs.FileTags.{externals_of, tags_of};
 ghost use Rattle.c_file.specs.Standing.{LooksThrough};
-ghost use Rattle.c_scope.specs.Table.{with_name};
 ghost use Rattle.c_mentions.specs.Tags.{now};
 
 use crate::externals::externals;
-use c_defs::Structs;
-use c_judge::{Fault, Symbol};
-use c_linkage::{FileFault, FileNames, State, tags_of};
-use c_scope::{Environment, Link, Mark, StructTags, Table};
-use c_tree::{CType, StructDef};
+use c_judge::Fault;
+use c_linkage::{
+    FileFault, FileNames, State, built_ins, completed_by, incomplete, tags_of, unfinished,
+};
+use c_scope::{Environment, Mark, StructTags};
 use c_trees::unit::Unit;
-use ldb_words::{Many, Text};
+use ldb_words::Text;
 use std::alloc::{AllocError, Global};
-use std::collections::VecDeque;
-
-/// Declares a built-in function: its name, its result, and its parameters.
-fn built_in<'a>(
-    alloc: Global,
-    table: &mut Table<'a>,
-    name: &'a [u8],
-    gives: CType,
-    parameters: Many<CType>,
-) -> Result<(), AllocError>
-    ensures { OnOk result (table.new ≡ with_name table.old name.now (record { name = name.now; ctype = gives; register = false; function = true }) parameters (record { up = innermost table.old.visible; unit = 0; local = None })) }
-{
-    let link = Link {
-        up: table.innermost(),
-        unit: 0,
-        local: None,
-    };
-    let symbol = Symbol {
-        name: Text::from_slice(alloc, name)?,
-        ctype: gives,
-        register: false,
-        function: true,
-    };
-    table.declare(name, symbol, parameters, link)
-}
-
-/// One `int`.
-fn one_int(alloc: Global) -> Result<Many<CType>, AllocError>
-    ensures { IfOk result (λ ts. ts ≡ CType.Int ∷ []) }
-{
-    let mut types = Many::new(alloc);
-    types.push(CType::Int)?;
-    Ok(types)
-}
-
-/// The built-in functions, which each file declares.
-fn built_ins<'a>(alloc: Global) -> Result<Table<'a>, AllocError>
-    ensures { IfOk result HasBuiltIns }
-{
-    let mut table = Table::new(alloc);
-    let Ok(()) = built_in(alloc, &mut table, b"getchar", CType::Int, Many::new(alloc)) else {
-        drop(table);
-        return Err(AllocError);
-    };
-    let Ok(int) = one_int(alloc) else {
-        drop(table);
-        return Err(AllocError);
-    };
-    let Ok(()) = built_in(alloc, &mut table, b"putchar", CType::Int, int) else {
-        drop(table);
-        return Err(AllocError);
-    };
-    let Ok(int) = one_int(alloc) else {
-        drop(table);
-        return Err(AllocError);
-    };
-    let Ok(()) = built_in(alloc, &mut table, b"exit", CType::Void, int) else {
-        drop(table);
-        return Err(AllocError);
-    };
-    let _outside = table.begin();
-    Ok(table)
-}
-
-/// Structs with these tags that are not complete.
-fn incomplete(alloc: Global, tags: &[&Text]) -> Result<Vec<StructDef>, AllocError>
-    ensures { IfOk result (λ ds. ds.items ≡ map incomplete (map now tags.now)) }
-{
-    let mut defs = Vec::new(alloc);
-    for tag in tags {
-        let tag = Text::from_slice(alloc, tag.as_bytes())?;
-        defs.push(StructDef {
-            tag,
-            size: 0,
-            members: Many::new(alloc),
-        })?;
-    }
-    Ok(defs)
-}
-
-/// The structs with these tags before a file, none of which is complete.
-fn unfinished<'a>(alloc: Global, tags: &[&'a Text]) -> Result<Structs<'a>, AllocError>
-    ensures { IfOk result (λ s. s ≡ map incomplete (map now tags.now)) }
-{
-    let defs = incomplete(alloc, tags)?;
-    Structs::new(alloc, defs)
-}
 
 /// What is declared before the first file.
 fn at_first_here<'a>(alloc: Global, tags: &[&'a Text]) -> Result<Environment<'a>, AllocError>
@@ -144,33 +54,6 @@ fn at_first<'a>(alloc: Global, tags: &[&'a Text]) -> Result<State<'a>, AllocErro
         strings: Vec::new(alloc),
         unknown: None,
     })
-}
-
-/// A struct as either of two completes it.
-fn completed_one(d: StructDef, e: StructDef) -> StructDef
-    ensures { result ≡ completed_one d e }
-{
-    if d.members.len() == 0 { e } else { d }
-}
-
-/// Structs as either of two lists completes them.
-fn completed_by(
-    alloc: Global,
-    ds: Vec<StructDef>,
-    es: Vec<StructDef>,
-) -> Result<Vec<StructDef>, AllocError>
-    ensures { IfOk result (λ cs. cs.items ≡ completed_by ds.items es.items) }
-{
-    let mut ds = VecDeque::from(ds);
-    let mut es = VecDeque::from(es);
-    let mut completed = Vec::new(alloc);
-    'completing: while let Some(d) = ds.pop_front() {
-        match es.pop_front() {
-            None => return Ok(completed),
-            Some(e) => completed.push(completed_one(d, e))?,
-        }
-    }
-    Ok(completed)
 }
 
 /// The program before its next file: what this one declared is out of scope, and its structs are completed for the others.

@@ -7,7 +7,7 @@ ghost use Rattle.c_scope.specs.Declarators as shape;
 ghost use Rattle.c_scope.specs.Declarators.{name_in};
 ghost use Rattle.c_file.specs.Files.{with_parameters, are_named, function_row, with_head};
 ghost use Rattle.c_linkage.specs.Types.{is_static};
-ghost use Rattle.c_body.specs.Bodies.{is_block};
+ghost use Rattle.c_parts.specs.Bodies.{is_block};
 ghost use Rattle.c_scope.specs.Findings.{fine, holds, ◌beside◌};
 ghost use Rattle.c_scope.specs.Here.{environment_of};
 ghost use Rattle.c_linkage.specs.Names.{name_found, is_built_in};
@@ -17,10 +17,13 @@ ghost use Rattle.c_file.specs.Walked.{Ends, IsWalked, IsChecked, Closes, AddsBod
 ghost use Rattle.c_body.specs.Walking.{before_in};
 
 use crate::declarations::declare_name;
-use crate::function_rows::{add_calls, add_declarator_calls, add_points, locals, numbers_from};
+use crate::function_rows::{add_points, locals};
 use c_body::{Body, Counts, Stop, check_body};
 use c_judge::{Fault, copied};
-use c_linkage::{Definition, FileName, Manner, State, is_built_in, is_static, parameter_types};
+use c_linkage::{
+    Definition, FileName, Manner, State, add_calls, add_declarator_calls, is_built_in, is_static,
+    numbers_from, parameter_types,
+};
 use c_mentions::strings_in_declarator;
 use c_scope::{Environment, Mark, Meaning, Parameter, Shape, declarator_place, name_in};
 use c_tree::{CType, Function, Local, Site, Stmt};

@@ -5,3 +5,4 @@ pub mod Telling
 mod Pairs
 mod NumberedRows
 mod Limited
+mod RowNumbers

@@ -10,3 +10,6 @@ pub mod Wanted
 pub mod FileTags
 pub mod Bounds
 pub mod Defined
+pub mod Parameters
+pub mod BuiltIns
+pub mod Completed

@@ -1,8 +1,9 @@
 -- Names that have to be defined, places that only the program's end tells to be within their object, and what objects hold at first; and what the code's are.
-use Rattle.std.specs.Prelude.{ℕ, Bool, List}
+use Rattle.std.specs.Prelude.{ℕ, Bool, true, false, List, [], ◌∷◌, Option, Some, None}
 use Rattle.c_linkage.specs.declared.state.Called.{Called as CalledRow}
 use Rattle.c_linkage.specs.declared.state.Awaited.{Awaited as AwaitedRow}
 use Rattle.c_linkage.specs.declared.state.Started.{Started as StartedRow}
+use Rattle.c_scope.specs.Environment.{Visible, number_of}
 use Rattle.c_initial.specs.Begins.{Begin}
 use Rattle.c_initial.specs.Initials.{Late}
 use Rattle.c_initial.specs.Starts.{begins_in, late_place}
@@ -23,6 +24,19 @@ pub record Started : Type 0 where
   pub name : List ℕ
   pub unit : ℕ
   pub begins : List Begin
+
+abbrev pub is_there : Option ℕ → Bool
+is_there None = false
+is_there (Some n) = true
+
+-- a name is visible among these
+abbrev pub is_visible : List Visible → List ℕ → Bool
+is_visible vs name = is_there (number_of vs name)
+
+-- names that have to be defined, where these are visible at file scope
+abbrev pub called_all : ℕ → List Visible → List (List ℕ) → List Called
+called_all u vs [] = []
+called_all u vs (n ∷ ns) = record { unit = u; name = n; declared = is_visible vs n } ∷ called_all u vs ns
 
 -- ---- those of the code
 

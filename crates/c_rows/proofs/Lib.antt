@@ -5,3 +5,4 @@ mod GreatestBound
 mod Filed
 mod Holding
 mod Listed
+mod Many

@@ -18,9 +18,10 @@ use Rattle.slot_gen.specs.Tokens.{tokens_of, init_tokens, result_tokens, declare
 use Rattle.c_scope.specs.Environment.{Environment, enter, scope}
 use Rattle.c_mentions.specs.Literals as literals
 use Rattle.c_mentions.specs.Literals.{number_at}
-use Rattle.c_body.specs.Bodies.{after}
-use Rattle.c_body.specs.Locals.{after_local}
-use Rattle.c_body.specs.Becoming.{Before, past, of_initial, behind, behind_head, behind_expression, past_part, row_list, IsExpression, IsStop, IsStopOrNone, IsInitial, AreLocals, IsReturned, IsHeaded, Becomes, Holds, IsBodyOf}
+use Rattle.c_parts.specs.Bodies.{after}
+use Rattle.c_parts.specs.Locals.{after_local}
+use Rattle.c_body.specs.Becoming.{Before, past, of_initial, behind, behind_head, behind_expression, past_part, IsExpression, IsStop, IsStopOrNone, IsInitial, AreLocals, IsReturned, IsHeaded, Becomes, Holds, IsBodyOf}
+use Rattle.c_parts.specs.Making.{row_list}
 use Rattle.c_tokens.proofs.Spelled.{tree_tokens, some_tokens}
 use Rattle.c_tokens.proofs.Typed as expressions
 use Rattle.c_tokens.proofs.Declared.{initial_tokens, names_tokens}

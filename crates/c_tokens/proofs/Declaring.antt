@@ -21,8 +21,8 @@ use Rattle.c_scope.specs.Environment.{Environment, Row, enter, scope_of, struct_
 use Rattle.c_scope.specs.Declarators.{Shape, Object, Function, Parameter, is_name, is_function, bounded, function, shape, parameters, taken, parameter, unnamed, is_taken, with_one, name_in}
 use Rattle.c_struct.specs.Structs.{Open, Written, written, member, members, IsWith, IsRowOf, Completes, completed_found}
 use Rattle.c_struct.specs.Specifies.{Goes, Ends, Inside, Specifies}
-use Rattle.c_body.specs.Locals.{local_type, with_local, after_local, after_names}
-use Rattle.c_body.specs.Bodies.{after}
+use Rattle.c_parts.specs.Locals.{local_type, with_local, after_local, after_names}
+use Rattle.c_parts.specs.Bodies.{after}
 use Rattle.c_tokens.specs.Identifiers.{IsIdentifier}
 use Rattle.c_tokens.proofs.Named as named
 use Rattle.c_tokens.proofs.Named.{one_more, Takes, declared_name, Declarator}

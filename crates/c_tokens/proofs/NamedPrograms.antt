@@ -28,7 +28,8 @@ use Rattle.c_linkage.specs.declared.definitions.Manner.{Manner}
 use Rattle.c_linkage.specs.declared.definitions.Manner.TheVariants.{Body}
 use Rattle.c_linkage.specs.Names.{FileName, Defining}
 use Rattle.c_file.specs.Files.{State, Bodied, with_name, row_of, with_strings, with_definition, defining, manner_of, after_what, what, after_name, after_all, with_parameters, function_row, with_head, body_environment, after_function, with_spec, behind_known, Externals, Onward, AllExternals}
-use Rattle.c_file.specs.Programs.{Told, Well, incomplete, completed_by, at_first, next_file, AllFiles}
+use Rattle.c_file.specs.Programs.{Told, Well, at_first, next_file, AllFiles}
+use Rattle.c_linkage.specs.Completed.{incomplete, completed_by}
 use Rattle.c_linkage.specs.FileTags.{tags_of}
 use Rattle.c_file.specs.Made.{Each, IsObjectOf, IsFunctionOf, IsSymbolOf, HasRows}
 use Rattle.c_linkage.specs.Defined.{is_body, is_on, objects_from}

@@ -26,7 +26,8 @@ use Rattle.c_scope.specs.Environment.{Environment, enter}
 use Rattle.c_scope.specs.Declarators.{Shape, Object, Function, Parameter, shape}
 use Rattle.c_body.specs.Stops.{inside_block}
 use Rattle.c_file.specs.Files.{State, Bodied, with_spec, with_head, function_row, body_environment, bodied, after_function, after_all, behind_known, Externals, Onward, AllExternals}
-use Rattle.c_file.specs.Programs.{Told, Well, completed_by, incomplete, at_first, next_file, AllFiles}
+use Rattle.c_file.specs.Programs.{Told, Well, at_first, next_file, AllFiles}
+use Rattle.c_linkage.specs.Completed.{completed_by, incomplete}
 use Rattle.c_linkage.specs.FileTags.{tags_of}
 use Rattle.c_file.specs.Made.{Each, IsFunctionOf, Makes}
 use Rattle.slot_formed.specs.Tokens.{function_tokens, struct_tokens, program_tokens}

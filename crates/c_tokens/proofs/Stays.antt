@@ -11,8 +11,8 @@ use Rattle.c_typing.specs.Expressions as typing
 use Rattle.c_judge.specs.Answers.{Answer, Known, Unknown, Broken}
 use Rattle.c_scope.specs.Environment.{Environment, enter, declare_local}
 use Rattle.c_scope.specs.Declarators.{Parameter}
-use Rattle.c_body.specs.Locals.{local_type, with_local, after_local, after_names}
-use Rattle.c_body.specs.Bodies.{after}
+use Rattle.c_parts.specs.Locals.{local_type, with_local, after_local, after_names}
+use Rattle.c_parts.specs.Bodies.{after}
 use Rattle.c_file.specs.Files.{State, with_name, row_of, with_strings, with_definition, after_what, what, after_name, after_all, with_parameters}
 
 -- ---- the structs of an environment

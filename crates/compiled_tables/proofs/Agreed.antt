@@ -12,7 +12,7 @@ use Rattle.c_typing.specs.Expressions.{Denoted}
 use Rattle.c_judge.specs.Answers.{Answer, Known, Unknown, Broken, ◌then◌}
 use Rattle.c_scope.specs.Declarators.{Shape, Object, Function, name_in}
 use Rattle.c_scope.specs.Findings.{Finding, Fine, ◌beside◌, holds}
-use Rattle.c_body.specs.Bodies.{is_block, found, in_function}
+use Rattle.c_parts.specs.Bodies.{is_block, found, in_function}
 use Rattle.c_body.specs.Stops.{inside_block}
 use Rattle.c_linkage.specs.Names.{FileName, as_built_in, as_main, one_linkage, one_type, name_found, is_built_in}
 use Rattle.c_file.specs.Files.{State, with_name, with_initial, with_strings, row_of, what, after_what, after_name, after_all, declared_found, found_as, all_found, initial_or_none, function_row, body_environment, after_function, function_found, are_named, with_spec, behind_known, Externals, Onward, AllExternals}

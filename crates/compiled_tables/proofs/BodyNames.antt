@@ -14,8 +14,8 @@ use Rattle.c_typing.specs.Expressions as typing
 use Rattle.c_judge.specs.Answers.{Answer, Known, Unknown, Broken}
 use Rattle.c_scope.specs.Environment.{Row, Environment, innermost, declare_local, enter}
 use Rattle.c_scope.specs.Declarators.{Parameter}
-use Rattle.c_body.specs.Locals.{local_type, local_name, with_local, after_local, after_names}
-use Rattle.c_body.specs.Bodies.{after}
+use Rattle.c_parts.specs.Locals.{local_type, local_name, with_local, after_local, after_names}
+use Rattle.c_parts.specs.Bodies.{after}
 use Rattle.c_body.specs.Stops.{Stop, stop, at_expression, at_part, at_initial, at_locals, at_head, stops, closing, inside_block, stops_of}
 use Rattle.c_file.specs.Files.{with_parameters}
 use Rattle.compiled_tables.specs.Weights.{Rates, total, constructors, derived, present, head_points, of_typed, of_row, of_local, of_declared_local, of_statement}

@@ -12,7 +12,7 @@ use Rattle.c_judge.specs.Answers.{Answer, Known, Unknown, Broken, ◌then◌}
 use Rattle.c_judge.specs.Judgement.{spec_type, pointers}
 use Rattle.c_scope.specs.Environment.{Environment, scope_of}
 use Rattle.c_scope.specs.Declarators.{Parameter, Shape, Object, Function, is_name, is_function, name_in, unbounded, bounded, unnamed, parameter, is_taken, with_one, function, unsized, shape, parameters, taken}
-use Rattle.c_body.specs.Locals.{kept, local_type}
+use Rattle.c_parts.specs.Locals.{kept, local_type}
 use Rattle.compiled_tables.specs.Weights.{Rates, total, constructors, derived, of_typed, of_parameter, of_parameters, of_function}
 use Rattle.compiled_tables.proofs.ShapeTypes.{shape_type, shape_more}
 use Rattle.compiled_tables.proofs.Sums.{total-append}

@@ -20,13 +20,14 @@ use Rattle.c_scope.specs.Declarators.{Shape, Object, Function, Parameter, shape}
 use Rattle.c_mentions.specs.Literals.{in_file_spec}
 use Rattle.c_mentions.specs.Tags.{in_all, in_external, each_once}
 use Rattle.c_struct.specs.Specifies.{Specifies}
-use Rattle.c_body.specs.Locals.{local_type, with_local, after_local, after_names}
-use Rattle.c_body.specs.Bodies.{after}
+use Rattle.c_parts.specs.Locals.{local_type, with_local, after_local, after_names}
+use Rattle.c_parts.specs.Bodies.{after}
 use Rattle.c_body.specs.Stops.{inside_block}
 use Rattle.c_linkage.specs.declared.definitions.Manner.TheVariants.{Body}
 use Rattle.c_linkage.specs.Names.{FileName}
 use Rattle.c_file.specs.Files.{State, Bodied, function_row, with_head, with_parameters, body_environment, bodied, after_all, after_function, with_spec, behind_known, Externals, Onward, AllExternals}
-use Rattle.c_file.specs.Programs.{Told, Well, in_file, ◌before◌, incomplete, at_first, next_file, AllFiles}
+use Rattle.c_file.specs.Programs.{Told, Well, in_file, ◌before◌, at_first, next_file, AllFiles}
+use Rattle.c_linkage.specs.Completed.{incomplete}
 use Rattle.c_linkage.specs.FileTags.{tags_of}
 use Rattle.compiled_tables.specs.Weights.{Rates, AreCovered, total, of_row, of_name, of_head, of_body, of_spec, of_declared, of_unit, of_units}
 use Rattle.compiled_tables.proofs.Files.{specifies_same, count_append}

@@ -23,7 +23,7 @@ use Rattle.c_judge.specs.Judgement.{spec_type, limited}
 use Rattle.c_struct.specs.Structs.{Open, members, Completes, completed_found}
 use Rattle.c_struct.specs.Specifies.{Goes as Followed, Ends, Inside, Specifies}
 use Rattle.c_body.specs.Stops.{Stop, stops_of, inside_block}
-use Rattle.c_body.specs.Bodies.{after}
+use Rattle.c_parts.specs.Bodies.{after}
 use Rattle.c_linkage.specs.Names.{FileName}
 use Rattle.c_file.specs.Files.{State, Bodied, with_name, with_initial, with_definition, with_strings, row_of, after_what, what, after_name, after_all, body_environment, bodied, function_row, with_head, behind_body, after_function, with_spec, behind_known, Externals, Onward, AllExternals}
 use Rattle.compiled_tables.proofs.Owned.{all_append, Holds, Goes, goes_up, stays, goes_on, declares, leaves, along, AllStops, stops_wider, body_among, parameters_along, units_along, parameters_unit}

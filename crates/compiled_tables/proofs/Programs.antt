@@ -19,7 +19,8 @@ use Rattle.c_scope.specs.Environment.{Row, Visible}
 use Rattle.c_scope.specs.Findings.{Finding}
 use Rattle.c_body.specs.Stops.{Stop}
 use Rattle.c_file.specs.Files.{State, Bodied, Onward}
-use Rattle.c_file.specs.Programs.{Told, Well, Lacks, Breaks, built_ins, built_in_rows, next_file, at_first, in_file, ◌before◌, AllFiles}
+use Rattle.c_file.specs.Programs.{Told, Well, Lacks, Breaks, next_file, at_first, in_file, ◌before◌, AllFiles}
+use Rattle.c_linkage.specs.BuiltIns.{built_ins, built_in_rows}
 use Rattle.c_file.specs.Made.{Each, IsFunctionOf, IsSymbolOf, type_of_name, points_from, all_points, functions_of, AreUnits, HasRows}
 use Rattle.ps_emit.specs.Bounds.{constructors, of_named}
 use Rattle.ps_emit.specs.Symbols.{up_in}

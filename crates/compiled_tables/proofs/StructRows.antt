@@ -18,7 +18,7 @@ use Rattle.c_scope.specs.Environment.{Environment, scope_of, struct_of}
 use Rattle.c_scope.specs.Declarators.{Shape, Object, Function, shape, name_in}
 use Rattle.c_struct.specs.Structs.{Open, Written, written, member, members, IsRowOf, Completes, completed_found}
 use Rattle.c_struct.specs.Specifies.{Goes, Ends, Inside, Specifies}
-use Rattle.c_file.specs.Programs.{completed_by, incomplete}
+use Rattle.c_linkage.specs.Completed.{completed_by, incomplete}
 use Rattle.compiled_tables.specs.Weights.{Rates, total, constructors, derived, of_member, of_part, of_members}
 use Rattle.compiled_tables.proofs.Sums.{total_of_one}
 use Rattle.compiled_tables.proofs.ShapeTypes.{then_known, known_same, shape_type, shape_more}

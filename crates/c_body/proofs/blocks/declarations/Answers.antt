@@ -4,7 +4,7 @@ use Rattle.c_judge.specs.Elaboration.{site_of}
 use Rattle.c_body.specs.Walking.{walk_of}
 use Rattle.c_body.proofs.PassedParts.{Goes, step}
 use Rattle.c_body.proofs.Forms.{inside_part, local_part, begun_passes, declares_passes, locals_fail}
-use Rattle.c_body.proofs.BracedBlocks.{local_more, locals_end}
+use Rattle.c_parts.proofs.BracedBlocks.{local_more, locals_end}
 use Rattle.c_body.proofs.blocks.declarations.Goals as goal
 
 pub loop-local-init : goal.loop-local-init

@@ -2,7 +2,7 @@ use Rattle.std.proofs.Common.{◌≡◌, drop, Ok}
 use Rattle.c_trees.specs.Statements.{StatementTree, Begun, with_locals}
 use Rattle.c_typing.specs.Plain.{Plain}
 use Rattle.c_judge.specs.Elaboration.{site_of}
-use Rattle.c_body.specs.Bodies.{Around}
+use Rattle.c_parts.specs.Bodies.{Around}
 use Rattle.c_body.specs.Blocks.{PassesInside}
 use Rattle.c_body.specs.Walking.{walk_of}
 use Rattle.c_body.proofs.blocks.declarations.Given as goal

@@ -4,12 +4,13 @@ use Rattle.c_typing.specs.Plain.{plain}
 use Rattle.c_judge.specs.declared.fault.Fault.{Fault}
 use Rattle.c_judge.specs.Elaboration.{site_of}
 use Rattle.c_scope.specs.Here.{environment_of}
-use Rattle.c_body.specs.Bodies.{Around, in_function}
-use Rattle.c_body.specs.Heads.{around_of}
+use Rattle.c_parts.specs.Bodies.{Around, in_function}
+use Rattle.c_parts.specs.Heads.{around_of}
 use Rattle.c_body.specs.Walks.{Walked}
 use Rattle.c_body.specs.Walking.{IsBody, before_in, stop_of, walk_of}
 use Rattle.c_mentions.specs.Tags.{now}
-use Rattle.c_body.specs.Blocks.{PassesInside, inside_of, block_of}
+use Rattle.c_body.specs.Blocks.{PassesInside}
+use Rattle.c_parts.specs.Blocks.{inside_of, block_of}
 use Rattle.c_body.specs.Ending.{begins, reaches}
 use Rattle.c_body.proofs.EndedBodies.{begun, body_is, body_fails, is_there, kept_passed, kept_failed}
 use Rattle.c_body.proofs.body.check_body.Goals as goal

@@ -1,9 +1,9 @@
 use Rattle.std.proofs.Common.{Ok, Some, refl}
 use Rattle.c_body.specs.Walking.{walk_of}
 use Rattle.c_scope.specs.Findings.{fine}
-use Rattle.c_body.specs.Bodies.{placed}
-use Rattle.c_body.specs.Heads.{around_of}
-use Rattle.c_body.specs.PassingParts.{both}
+use Rattle.c_parts.specs.Bodies.{placed}
+use Rattle.c_parts.specs.Heads.{around_of}
+use Rattle.c_parts.specs.PassingParts.{both}
 use Rattle.c_body.proofs.PassedParts.{step, checked, checks}
 use Rattle.c_body.proofs.Forms.{case_passes, label_part}
 use Rattle.c_body.proofs.heads.at_case.Goals as goal

@@ -1,5 +1,5 @@
 use Rattle.std.proofs.Common.{Ok, Err}
-use Rattle.c_body.specs.declared.walk.Asking.TheVariants.{Tested, Dropped}
+use Rattle.c_parts.specs.declared.asking.Asking.TheVariants.{Tested, Dropped}
 use Rattle.c_body.specs.Walking.{walk_of}
 use Rattle.c_body.proofs.PassedParts.{with_part, step, stops_at, fails}
 use Rattle.c_body.proofs.Forms.{option_part, for_parts, for_passes, for_fails}

@@ -1,12 +1,12 @@
 use Rattle.std.proofs.Common.{Ok, Err, Some, refl, sym, ap, ◌∙◌, subst}
-use Rattle.c_body.specs.declared.walk.Asking.TheVariants.{Selected}
+use Rattle.c_parts.specs.declared.asking.Asking.TheVariants.{Selected}
 use Rattle.c_scope.specs.Findings.{fine}
-use Rattle.c_body.specs.PassingParts.{both}
+use Rattle.c_parts.specs.PassingParts.{both}
 use Rattle.c_body.specs.Walking.{walk_of}
 use Rattle.c_trees.specs.declared.statement.Head.TheVariants as head
 use Rattle.c_body.proofs.PassedParts.{Goes, checked, checks, broken, step, fails}
 use Rattle.c_body.proofs.Forms.{stop_part, head_part, switch_parts, body_found, switch_passes, same_switch}
-use Rattle.c_body.proofs.Kept.{kept_ok, kept_err}
+use Rattle.c_parts.proofs.Kept.{kept_ok, kept_err}
 use Rattle.c_body.proofs.heads.at_switch.Goals as goal
 
 pub returns-in-Ok-kept-clause-passes : goal.returns-in-Ok-kept-clause-passes

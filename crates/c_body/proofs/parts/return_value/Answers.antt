@@ -6,8 +6,8 @@ use Rattle.c_body.specs.Becoming.{Becomes}
 use Rattle.c_body.specs.Stops.{stop}
 use Rattle.c_judge.specs.Places.{place_of}
 use Rattle.c_mentions.specs.Literals.{in_tree}
-use Rattle.c_body.specs.Calls.{called}
-use Rattle.c_body.specs.Bodies.{returned}
+use Rattle.c_calls.specs.Calls.{called}
+use Rattle.c_parts.specs.Bodies.{returned}
 use Rattle.c_body.specs.Walks.{Passes, before_of}
 use Rattle.c_body.specs.Passing.{PassesExpression}
 use Rattle.c_body.specs.Walking.{walk_of}

@@ -4,19 +4,21 @@ use Rattle.c_trees.specs.StatementView.{statement_of}
 use Rattle.c_trees.specs.declared.statement.Head.TheVariants as head
 use Rattle.c_typing.specs.Plain.{plain}
 use Rattle.c_judge.specs.Elaboration.{site_of}
-use Rattle.c_body.specs.declared.walk.Asking.TheVariants.{Tested}
-use Rattle.c_body.specs.Bodies.{Around, inside, in_loop}
-use Rattle.c_body.specs.Bodies as bodies
+use Rattle.c_parts.specs.declared.asking.Asking.TheVariants.{Tested}
+use Rattle.c_parts.specs.Bodies.{Around, inside, in_loop}
+use Rattle.c_parts.specs.Bodies as bodies
 use Rattle.c_scope.specs.Here.{environment_of}
 use Rattle.c_scope.specs.Environment.{Environment}
 use Rattle.c_body.specs.Walks.{Walked}
-use Rattle.c_body.specs.Blocks.{AddsStatement, PassesStatement, PassesInside, inside_of}
-use Rattle.c_body.specs.Heads.{PassesHead, around_of}
+use Rattle.c_body.specs.Blocks.{PassesStatement, PassesInside}
+use Rattle.c_parts.specs.Blocks.{AddsStatement, inside_of}
+use Rattle.c_body.specs.Heads.{PassesHead}
+use Rattle.c_parts.specs.Heads.{around_of}
 use Rattle.c_body.specs.Walking.{walk_of}
 use Rattle.c_body.proofs.PassedParts.{Goes, with_part, step, stops_at, fails, second_passed, made_passed, whatever}
 use Rattle.c_body.proofs.Forms.{stop_part, head_part, statement_part, inside_part, if_parts, if_passes, same_if, else_parts, else_passes, same_else, do_parts, do_passes, same_do, headed_parts, headed_passes, same_headed, also_parts, also_passes, statements_fail, into_block, block_passes, block_fails, as_written}
 use Rattle.c_body.proofs.Leaving.{leaves_within, left}
-use Rattle.c_body.proofs.BracedBlocks.{statement_more, statements_end}
+use Rattle.c_parts.proofs.BracedBlocks.{statement_more, statements_end}
 use Rattle.c_body.proofs.statements.+walking.Goals as goal
 
 -- ---- if

@@ -2,8 +2,9 @@ use Rattle.std.proofs.Common.{◌≡◌, ◌+◌, ◌*◌, drop, Ok}
 use Rattle.c_trees.specs.Statements.{StatementTree, depth, with_statements}
 use Rattle.c_typing.specs.Plain.{plain}
 use Rattle.c_judge.specs.Elaboration.{site_of}
-use Rattle.c_body.specs.Blocks.{PassesInside, inside_of}
-use Rattle.c_body.specs.Heads.{around_of}
+use Rattle.c_body.specs.Blocks.{PassesInside}
+use Rattle.c_parts.specs.Blocks.{inside_of}
+use Rattle.c_parts.specs.Heads.{around_of}
 use Rattle.c_body.specs.Walking.{walk_of}
 use Rattle.c_mentions.proofs.Measures.{statement_depths}
 use Rattle.c_body.proofs.statements.+walking.Given as goal

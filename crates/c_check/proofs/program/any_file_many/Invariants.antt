@@ -1,5 +1,5 @@
 use Rattle.std.proofs.Common.{◌≡◌, map, drop}
-use Rattle.c_file.specs.Programs.{any, many}
+use Rattle.c_linkage.specs.Parameters.{any, many}
 use Rattle.c_linkage.specs.FileTags.{externals_of}
 use Rattle.c_check.proofs.program.any_file_many.Given as goal
 

@@ -1,5 +1,5 @@
 use Rattle.std.proofs.Common.{◌≡◌, ◌+◌, map, suc, refl, ap, ◌∙◌, arith}
-use Rattle.c_file.specs.Programs.{completed_by}
+use Rattle.c_linkage.specs.Completed.{completed_by}
 use Rattle.c_file.specs.Progress.{so_far}
 use Rattle.c_mentions.specs.Tags.{now}
 use Rattle.c_file.proofs.NextFiles.{next_here}

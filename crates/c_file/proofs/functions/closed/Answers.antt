@@ -2,7 +2,7 @@ use Rattle.std.proofs.Common.{◌≡◌, ◌++◌, ◌∷◌, ◌+◌, [], map, 
 use Rattle.std.proofs.lemmas.Grind.{common_steps}
 use Rattle.std.proofs.lemmas.List.{length-map}
 use Rattle.c_typing.specs.Programs.{numbers}
-use Rattle.c_file.specs.Files.{called_all}
+use Rattle.c_linkage.specs.Wanted.{called_all}
 use Rattle.c_scope.specs.Here.{environment_of}
 use Rattle.c_linkage.specs.Names.{defining}
 use Rattle.c_file.specs.Progress.{so_far, points_of}

@@ -1,6 +1,0 @@
-use Rattle.std.proofs.Common.{◌≡◌, drop}
-use Rattle.c_file.specs.Programs.{any, many_in_local}
-use Rattle.c_check.proofs.parameters.locals_take_many.Given as goal
-
-abbrev pub invariant-loop-local : goal.invariant-loop-local
-invariant-loop-local l = any many_in_local (drop l.local-index l.locals) ≡ any many_in_local l.locals

@@ -1,0 +1,9 @@
+pub mod Locals
+pub mod Bodies
+pub mod Asked
+pub mod PassingParts
+pub mod Heads
+pub mod Making
+pub mod Blocks
+pub mod Labels
+pub mod MadeLocals
