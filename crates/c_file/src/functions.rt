@@ -25,10 +25,11 @@ use c_linkage::{
     numbers_from, parameter_types,
 };
 use c_mentions::strings_in_declarator;
+use c_parts::is_block;
 use c_scope::{Environment, Mark, Meaning, Parameter, Shape, declarator_place, name_in};
 use c_tree::{CType, Function, Local, Site, Stmt};
 use c_trees::declaration::{Declarator, Storage};
-use c_trees::statement::{Statement, StatementNode};
+use c_trees::statement::Statement;
 use ldb_words::{Many, Text};
 use std::alloc::{AllocError, Global};
 
@@ -75,27 +76,6 @@ fn are_named(ps: &[Parameter]) -> bool
         }
     }
     true
-}
-
-/// Whether a statement is a block.
-fn is_block(s: &Statement) -> bool
-    ensures { result ≡ is_block s.now }
-{
-    match &s.node {
-        StatementNode::Block(_, _, _, _) => true,
-        StatementNode::Empty(_)
-        | StatementNode::Evaluate(_)
-        | StatementNode::If(_, _, _, _)
-        | StatementNode::While(_, _, _)
-        | StatementNode::Do(_, _, _)
-        | StatementNode::For(_, _, _, _, _)
-        | StatementNode::Switch(_, _, _)
-        | StatementNode::Case(_, _, _)
-        | StatementNode::Default(_, _)
-        | StatementNode::Break(_)
-        | StatementNode::Continue(_)
-        | StatementNode::Return(_, _) => false,
-    }
 }
 
 /// The name of a function is declared, whose body is no block or may not stand with it.

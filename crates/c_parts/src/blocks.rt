@@ -78,6 +78,27 @@ pub fn statement_at(s: &Statement) -> u32
     }
 }
 
+/// Whether a statement is a block.
+pub fn is_block(s: &Statement) -> bool
+    ensures { result ≡ is_block s.now }
+{
+    match &s.node {
+        StatementNode::Block(_, _, _, _) => true,
+        StatementNode::Empty(_)
+        | StatementNode::Evaluate(_)
+        | StatementNode::If(_, _, _, _)
+        | StatementNode::While(_, _, _)
+        | StatementNode::Do(_, _, _)
+        | StatementNode::For(_, _, _, _, _)
+        | StatementNode::Switch(_, _, _)
+        | StatementNode::Case(_, _, _)
+        | StatementNode::Default(_, _)
+        | StatementNode::Break(_)
+        | StatementNode::Continue(_)
+        | StatementNode::Return(_, _) => false,
+    }
+}
+
 /// Whether a statement is a block without declarations.
 #[tactic(auto, using(crate::proofs::BracedBlocks::plain_with))]
 pub fn is_plain_block(s: &Statement) -> bool

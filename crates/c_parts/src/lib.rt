@@ -12,7 +12,7 @@ mod making;
 
 pub use around::{Around, in_block, in_branch, in_function, in_loop, in_switch, placed};
 pub use asking::{Asking, answers, no_result, rule_of};
-pub use blocks::{Braces, Inside, braces_of, nothing, with_locals, with_statement};
+pub use blocks::{Braces, Inside, braces_of, is_block, nothing, with_locals, with_statement};
 pub use heads::{
     CheckedHead, checked_case, checked_for, checked_switch, checked_while, is_switch_body,
 };
